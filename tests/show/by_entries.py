@@ -23,6 +23,7 @@ from program import (
     Program,
     Test,
     bad_audit,
+    bad_tick,
     clog,
     entries_of,
     kill,
@@ -99,16 +100,11 @@ def folded(program: Program) -> Iterator[Test]:
     lines = program.audit(REGIONS, long_script(10000, 1)).splitlines(keepends=True)
     for count in (3999, 4000, 4001, 4002, 8000, 8001, 10000):
         front = b"".join(lines[: 1 + count])
-        act = {"act": {"tick": {"ticks": 1}}}
-        bad, again = (
-            json.dumps({**act, "at": at, "by": 0, "reply": {"time": 0}}, separators=(",", ":"))
-            for at in (count, count + 1)
-        )
-        one = front + f"{bad}\n".encode()
+        one = front + bad_tick(count)
         for name, audit, place in (
             (f"{count} entries", front, None),
             (f"{count} entries and a bad one", one, count),
-            (f"{count} entries, two bad ones", one + f"{again}\n".encode(), count),
+            (f"{count} entries, two bad ones", one + bad_tick(count + 1), count),
         ):
             yield Test(name, partial(drawn, program, REGIONS, audit, place))
 

@@ -41,6 +41,7 @@ from program import (
     SIX,
     Program,
     Test,
+    bad_at,
     bad_audit,
     entries_of,
     long_script,
@@ -206,6 +207,9 @@ def tests(program: Program, folder: Path) -> Iterator[Test]:
     ]
     of_bad = ['{"entry": 0, "t": 1.25, "does": "Reboot"}', '{"entry": 1, "t": 7}']
     hour = program.audit(REGIONS, long_script(9000, 3))
+    day = (EXAMPLES / "bad-day.events").read_text().splitlines()
+    # Each of these bad entries has an event, which would make the columns reach further.
+    later = [*long_events(), '{"entry": 8999, "t": 5000}']
     for name, path, its, lines, bad in (
         ("a day in one column", SIX, audit, dense, None),
         ("a second column", SIX, audit, ['{"entry": 44, "t": 400}', '{"t": "later"}'], None),
@@ -214,5 +218,7 @@ def tests(program: Program, folder: Path) -> Iterator[Test]:
         ("nothing by times", SIX, NOTHING, ["{}"], None),
         ("bad by times", SIX, bad_audit(), of_bad, 1),
         ("long by times", REGIONS, hour, long_events(), None),
+        *((f"bad-day, {at} is bad", SIX, bad_at(audit, at), day, at) for at in (0, 22, 44)),
+        *((f"long, {at} is bad", REGIONS, bad_at(hour, at), later, at) for at in (0, 4500, 8999)),
     ):
         yield Test(name, partial(written, program, folder, path, its, lines, bad))

@@ -68,6 +68,19 @@ def bad_audit() -> bytes:
     return audit.replace(b',"struck":"Reboot"', b',"struck":"KillInstantly"')
 
 
+def bad_tick(at: int) -> bytes:
+    """A line that is bad at each place: no time is 0 behind a tick."""
+    entry = {"act": {"tick": {"ticks": 1}}, "at": at, "by": 0, "reply": {"time": 0}}
+    return json.dumps(entry, separators=(",", ":")).encode() + b"\n"
+
+
+def bad_at(audit: bytes, at: int) -> bytes:
+    """The audit with a bad entry in place of one."""
+    lines = audit.splitlines(keepends=True)
+    lines[1 + at] = bad_tick(at)
+    return b"".join(lines)
+
+
 def tick(ticks: int, by: int = 0) -> Entry:
     return {"by": by, "act": {"tick": {"ticks": ticks}}}
 

@@ -7,7 +7,7 @@ from collections.abc import Iterator
 from functools import partial
 from pathlib import Path
 
-from program import EXAMPLES, NOTHING, SIX, Program, Test
+from program import EXAMPLES, NOTHING, SIX, Program, Test, bad_audit
 
 RIGHT = '{"entry": 0, "t": 1, "does": "Reboot"}\n'
 FAULTY_EVENTS = {
@@ -78,6 +78,8 @@ def tests(program: Program, folder: Path) -> Iterator[Test]:
         for line in lines:
             run = partial(refuses_event, program, folder, audit, line, fault)
             yield Test(f"{fault}: {line!r}", run)
+    bad = partial(refuses_event, program, folder, bad_audit(), "{", "Syntax")
+    yield Test("a bad audit with faulty events", bad)
     yield Test("a cut audit with faulty events", partial(faulty_and_cut, program, folder, audit))
     for name, path in (("no events to read", folder / "none"), ("a folder for events", folder)):
         yield Test(name, partial(refuses, program, audit, path, 3, "read fault\n"))

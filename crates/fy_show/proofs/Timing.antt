@@ -1,6 +1,7 @@
 -- what is known of the document of an audit and its events
-use Rattle.std.proofs.Common.{◌≡◌, ℕ, List, [], Option, Some, None, Result, Ok, Err, Bool, subst, arith}
-use Rattle.std.specs.Prelude.{IfSome, is_none}
+use Rattle.std.proofs.Common.{◌≡◌, ◌∙◌, ℕ, List, [], length, Option, Some, None, Result, Ok, Err, Bool, true, false, refl, ap, sym, subst, arith}
+use Rattle.std.specs.Prelude.{IfSome, is_none, is_some, not}
+use Rattle.std.proofs.lemmas.Bool.{false≢true}
 use Rattle.std.proofs.KnownBytes.{Consumes-nil}
 use Rattle.fy_lines.specs.Readings.{ReadsAtMost}
 use Rattle.fy_audit.specs.Audit.{Audit, AuditOf}
@@ -10,6 +11,7 @@ use Rattle.fy_events.specs.Events.{EventsOf}
 use Rattle.fy_events.specs.declared.event.Event.{Event}
 use Rattle.fy_events.specs.declared.events.EventsFault.{EventsFault}
 use Rattle.fy_cluster.specs.Setup.{Setup}
+use Rattle.fy_replay.specs.Replayed.{HasFirstBad}
 use Rattle.fy_check.specs.CheckTexts.{IsFound}
 use Rattle.fy_check.specs.declared.check.Finding.{Finding}
 use Rattle.fy_streams.specs.declared.stop.Stop.{Stop}
@@ -17,7 +19,7 @@ use Rattle.fy_streams.specs.declared.stop.Stop.TheVariants.{JudgeTooLong, JudgeL
 use Rattle.fy_streams.specs.Stops.{IfAuditFault, IfEventsFault}
 use Rattle.fy_picture.specs.Recording.{Recording}
 use Rattle.fy_svg.specs.Documents.{IsDocument}
-use Rattle.fy_show.specs.Shows.{HasTimedDocument, AreRefused, IsDrawnByTime}
+use Rattle.fy_show.specs.Shows.{AreRefused, AuditsHaveFindings, HasEntries, HasTimedDocument, IsDrawn, IsDrawnByTime}
 
 -- what follows of a fault of the events, whichever it is
 pub map_events : (stop : Stop) (P Q : EventsFault → Type 0) →
@@ -53,22 +55,30 @@ no_audit NoMemory P none = tt
 pub reads_none : (known : Option (List ℕ)) (most : ℕ) → ReadsAtMost known known most
 reads_none known most = ([], Consumes-nil known, omega arith)
 
--- an audit that was read and checked, and the events of its entries, have a document
-pub has_timed_document : (setup : Setup) (audit events : Option (List ℕ)) (bytes lines : List ℕ)
-    (finding : Finding) (legal : Bool) (P : List ℕ → Type 0) → IfSome audit (λ known. bytes ≡ known) →
-    IfSome events (λ known. lines ≡ known) → IsFound setup bytes finding →
-    legal ≡ is_none finding.first_bad → (told : List Event) → EventsOf finding.count lines (Ok told) →
-    (drawing : Recording) → IsDrawnByTime setup bytes finding told drawing →
+-- what holds of bytes that were read holds of those that a reader is known to give
+pub holds_known : (known : Option (List ℕ)) (read : List ℕ) (P : List ℕ → Type 0) →
+    IfSome known (λ bytes. read ≡ bytes) → P read → IfSome known P
+holds_known None read P same holds = tt
+holds_known (Some bytes) read P same holds = subst P same holds
+
+-- an audit in which this was found, and the events of its entries, have a document
+pub has_timed_document : (setup : Setup) (audit events : Option (List ℕ)) (bytes : List ℕ)
+    (count : ℕ) (told : List Event) (legal : Bool) (P : List ℕ → Type 0) →
+    IfSome audit (λ known. bytes ≡ known) →
+    IfSome events (λ lines. EventsOf count lines (Ok told)) →
+    (finding : Finding) → finding.count ≡ count → IsFound setup bytes finding →
+    legal ≡ is_none finding.first_bad → (drawing : Recording) →
+    IsDrawnByTime setup bytes finding told drawing →
     (text : List ℕ) → IsDocument drawing text → P text → HasTimedDocument setup audit events legal P
-has_timed_document setup None events bytes lines finding legal P read_audit read found is told are drawing drawn text of holds = tt
-has_timed_document setup (Some known) None bytes lines finding legal P read_audit read found is told are drawing drawn text of holds = tt
-has_timed_document setup (Some known) (Some known_lines) bytes lines finding legal P read_audit read found is told are drawing drawn text of holds = (
+has_timed_document setup None events bytes count told legal P read_audit are finding same found is drawing drawn text of holds = tt
+has_timed_document setup (Some known) None bytes count told legal P read_audit are finding same found is drawing drawn text of holds = tt
+has_timed_document setup (Some known) (Some lines) bytes count told legal P read_audit are finding same found is drawing drawn text of holds = (
   finding,
   subst (λ xs. IsFound setup xs finding) read_audit found,
   (
     is,
     told,
-    subst (λ xs. EventsOf finding.count xs (Ok told)) read are,
+    subst (λ n. EventsOf n lines (Ok told)) (sym same) are,
     drawing,
     subst (λ xs. IsDrawnByTime setup xs finding told drawing) read_audit drawn,
     text,
@@ -77,33 +87,59 @@ has_timed_document setup (Some known) (Some known_lines) bytes lines finding leg
   ),
 )
 
--- an audit that was read and checked, and events that are refused
-pub are_refused : (setup : Setup) (audit events : Option (List ℕ)) (bytes : List ℕ)
-    (finding : Finding) (fault : EventsFault) → IfSome audit (λ known. bytes ≡ known) →
-    IsFound setup bytes finding → IfSome events (λ known. EventsOf finding.count known (Err fault)) →
+-- an audit that was read, and events that are refused
+pub are_refused : (setup : Setup) (audit events : Option (List ℕ)) (bytes : List ℕ) (count : ℕ)
+    (fault : EventsFault) → AuditsHaveFindings → IfSome audit (λ known. bytes ≡ known) →
+    HasEntries bytes count → IfSome events (λ lines. EventsOf count lines (Err fault)) →
     AreRefused setup audit events fault
-are_refused setup None events bytes finding fault read_audit found refused = tt
-are_refused setup (Some known) None bytes finding fault read_audit found refused = tt
-are_refused setup (Some known) (Some lines) bytes finding fault read_audit found refused =
-    (finding, subst (λ xs. IsFound setup xs finding) read_audit found, refused)
+are_refused setup None events bytes count fault law read_audit has refused = tt
+are_refused setup (Some known) None bytes count fault law read_audit has refused = tt
+are_refused setup (Some known) (Some lines) bytes count fault law read_audit has refused =
+    let found = law setup bytes count has in
+    let finding : Finding = record { count = count; first_bad = found.0 } in
+    (finding, subst (λ xs. IsFound setup xs finding) read_audit found.1, refused)
+
+-- bytes are one audit
+one_audit : AuditIsUnambiguous → (bytes : List ℕ) (a b : Audit) → AuditOf bytes (Ok a) →
+    AuditOf bytes (Ok b) → a ≡ b
+one_audit one bytes a b p q = let same = one bytes (Ok a) (Ok b) p q in cc
+
+-- what the drawing of an audit says of its first bad entry was found
+pub found_of : AuditIsUnambiguous → (setup : Setup) (bytes : List ℕ) (count : ℕ)
+    (laid : Option (List ℕ)) (drawing : Recording) → HasEntries bytes count →
+    IsDrawn setup bytes laid drawing →
+    IsFound setup bytes (record { count = count; first_bad = drawing.first_bad })
+found_of one setup bytes count laid drawing has drawn = record {
+  audit = drawn.audit;
+  read = drawn.read;
+  count = has.count_is
+      ∙ ap (λ (a : Audit). length a.entries) (one_audit one bytes has.audit drawn.audit has.read drawn.read);
+  first = subst (λ v. HasFirstBad v setup drawn.audit.entries drawing.first_bad) drawn.version drawn.those.first;
+}
+
+-- where a test says that there is none, there is none
+pub none_where : (o : Option ℕ) (none : Bool) → not none ≡ is_some o → none ≡ true → o ≡ None
+none_where None none same is = refl
+none_where (Some at) true same is = absurd (false≢true same)
+none_where (Some at) false same is = absurd (false≢true is)
 
 -- an audit, and no fault of one
 abbrev IsRead : Result Audit AuditFault → Type 0
 IsRead (Ok audit) = Unit {0}
 IsRead (Err fault) = ⊥
 
--- bytes of which something was found are refused by no fault
-pub found_unrefused : AuditIsUnambiguous → (setup : Setup) (bytes : List ℕ) (finding : Finding) →
-    IsFound setup bytes finding → (stop : Stop) →
-    IfAuditFault stop (λ fault. AuditOf bytes (Err fault)) → IfAuditFault stop (λ _. ⊥)
-found_unrefused one setup bytes finding found JudgeTooLong refused = tt
-found_unrefused one setup bytes finding found (JudgeLine line fault) refused = tt
-found_unrefused one setup bytes finding found (Config fault) refused = tt
-found_unrefused one setup bytes finding found (Script fault) refused = tt
-found_unrefused one setup bytes finding found JournalFull refused = tt
-found_unrefused one setup bytes finding found (AuditStop fault) refused = subst IsRead (one bytes (Ok found.audit) (Err fault) found.read refused) tt
-found_unrefused one setup bytes finding found (Events fault) refused = tt
-found_unrefused one setup bytes finding found SwarmClose refused = tt
-found_unrefused one setup bytes finding found Read refused = tt
-found_unrefused one setup bytes finding found Write refused = tt
-found_unrefused one setup bytes finding found NoMemory refused = tt
+-- an audit is refused by no fault
+pub unrefused : AuditIsUnambiguous → (bytes : List ℕ) (count : ℕ) → HasEntries bytes count →
+    (stop : Stop) → IfAuditFault stop (λ fault. AuditOf bytes (Err fault)) →
+    IfAuditFault stop (λ _. ⊥)
+unrefused one bytes count has JudgeTooLong refused = tt
+unrefused one bytes count has (JudgeLine line fault) refused = tt
+unrefused one bytes count has (Config fault) refused = tt
+unrefused one bytes count has (Script fault) refused = tt
+unrefused one bytes count has JournalFull refused = tt
+unrefused one bytes count has (AuditStop fault) refused = subst IsRead (one bytes (Ok has.audit) (Err fault) has.read refused) tt
+unrefused one bytes count has (Events fault) refused = tt
+unrefused one bytes count has SwarmClose refused = tt
+unrefused one bytes count has Read refused = tt
+unrefused one bytes count has Write refused = tt
+unrefused one bytes count has NoMemory refused = tt

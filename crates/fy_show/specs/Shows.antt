@@ -51,8 +51,19 @@ HasDocument setup known legal P =
     × (drawing : Recording) × IsDrawn setup bytes None drawing
     × (text : List ℕ) × IsDocument drawing text × P text)
 
--- known bytes of an audit that was read and checked, what was found of it, and known bytes of a
--- file of events
+-- the bytes are an audit of so many entries
+pub record HasEntries (bytes : List ℕ) (count : ℕ) : Type 0 where
+  pub audit : Audit
+  pub read : AuditOf bytes (Ok audit)
+  pub count_is : count ≡ length audit.entries
+
+-- each audit has a finding: it is legal, or has a first bad entry
+abbrev pub AuditsHaveFindings : Type 0
+AuditsHaveFindings =
+    (setup : Setup) (bytes : List ℕ) (count : ℕ) → HasEntries bytes count →
+    (first_bad : Option ℕ) × IsFound setup bytes (record { count = count; first_bad = first_bad })
+
+-- known bytes of an audit, its finding, and known bytes of a file of events
 abbrev pub IfBothKnown : Setup → (audit events : Option (List ℕ))
     → (List ℕ → Finding → List ℕ → Type 0) → Type 0
 IfBothKnown setup audit events P =
@@ -69,7 +80,7 @@ HasTimedDocument setup audit events legal P =
     × (drawing : Recording) × IsDrawnByTime setup bytes finding told drawing
     × (text : List ℕ) × IsDocument drawing text × P text)
 
--- the audit was read and checked, and the file of events is refused by this fault
+-- the audit was read, and the file of events is refused by this fault
 abbrev pub AreRefused : Setup → (audit events : Option (List ℕ)) → EventsFault → Type 0
 AreRefused setup audit events fault =
     IfBothKnown setup audit events (λ _ finding lines. EventsOf finding.count lines (Err fault))

@@ -1,23 +1,25 @@
 //! An audit and the events of its run in, a picture by time out.
-ghost use Rattle.std.specs.Prelude.{◌≡◌, ◌≢◌, ◌⊎◌, ◌+◌, ℕ, Bool, List, None, Some, IfOk, IfErr, IfSome, Ok, Err, string_bytes};
+ghost use Rattle.std.specs.Prelude.{◌≡◌, ◌≢◌, ◌⊎◌, ◌+◌, ℕ, Bool, None, Some, IfOk, IfErr, IfSome, Ok, Err, is_none, string_bytes};
 ghost use Rattle.std.specs.Io.KnownBytes.{Appends};
 ghost use Rattle.fy_lines.specs.Prefixes.{AppendsProperPrefix};
 ghost use Rattle.fy_lines.specs.Readings.{ReadsAtMost};
 ghost use Rattle.fy_audit.specs.declared.audit.TheConstants.{MOST_AUDIT_BYTES};
 ghost use Rattle.fy_events.specs.Events.{EventsOf, Rises};
-ghost use Rattle.fy_events.specs.declared.event.Event.{Event};
 ghost use Rattle.fy_events.specs.declared.TheConstants.{MOST_EVENTS_BYTES};
 ghost use Rattle.fy_streams.specs.Stops.{IfAuditFault, IfEventsFault, IsTimesStop};
 ghost use Rattle.fy_check.specs.CheckTexts.{IsFound};
+ghost use Rattle.fy_check.specs.declared.check.Finding.{Finding};
 ghost use Rattle.fy_check.specs.Inputs.{IsInputStop, TellsFault};
 ghost use Rattle.fy_picture.specs.Recording.{Recording};
 ghost use Rattle.fy_svg.specs.Documents.{IsDocument};
-ghost use Rattle.fy_show.specs.Shows.{AreRefused, HasTimedDocument, IsDrawn, IsDrawnByTime};
+ghost use Rattle.fy_show.specs.Shows.{AreRefused, HasEntries, HasTimedDocument, IsDrawn, IsDrawnByTime};
 
+use crate::counted::count_entries;
+use crate::laws::audits_have_findings;
 use crate::sketch::Sketch;
 use fy_audit::MOST_AUDIT_BYTES;
 use fy_audit::laws::audits_are_unambiguous;
-use fy_check::{AuditInput, Finding, load_audit, replay_audit};
+use fy_check::{AuditInput, Finding, load_audit};
 use fy_cluster::Config;
 use fy_events::{
     Event, EventsFault, MOST_EVENTS_BYTES, TimeColumns, columns_by_time, events_before, read_events,
@@ -30,7 +32,7 @@ use std::alloc::Global;
 use std::io::{Read, Write};
 
 /// The bytes of the file of events that a reader gives.
-fn load_events<R: Read>(alloc: Global, reader: &mut R) -> Result<Vec<u8>, Stop>
+fn load_lines<R: Read>(alloc: Global, reader: &mut R) -> Result<Vec<u8>, Stop>
     ensures read { IfOk result (λ read. IfSome (R.remaining reader.old)
         (λ lines. read.items ≡ lines)) }
     ensures refused { IfErr result (λ stop. IfEventsFault stop (λ fault. (count : ℕ)
@@ -71,15 +73,23 @@ fn events_of(alloc: Global, bytes: &[u8], count: u32) -> Result<Vec<Event>, Stop
     }
 }
 
-/// What is found of an audit that is held whole.
-fn finding_of(alloc: Global, config: &Config, bytes: &[u8]) -> Result<Finding, Stop>
-    ensures found { IfOk result (IsFound config.now bytes.now) }
-    ensures refused { IfErr result (TellsFault (Some bytes.now)) }
-    ensures own { IfErr result IsInputStop }
+/// The events of so many entries that a reader gives.
+fn load_events<R: Read>(alloc: Global, reader: &mut R, count: u32) -> Result<Vec<Event>, Stop>
+    ensures read { IfOk result (λ events. IfSome (R.remaining reader.old)
+        (λ lines. EventsOf count lines (Ok events.items))) }
+    ensures rise { IfOk result (λ events. Rises count None events.items) }
+    ensures refused { IfErr result (λ stop. IfEventsFault stop (λ fault.
+        IfSome (R.remaining reader.old) (λ lines. EventsOf count lines (Err fault)))) }
+    ensures no_audit { IfErr result (λ stop. IfAuditFault stop (λ _. ⊥)) }
+    ensures own { IfErr result IsTimesStop }
+    ensures no_write { IfErr result (λ stop. stop ≢ Stop.Write) }
+    ensures read_fault { result ≡ Err Stop.Read →
+        ReadsAtMost (R.remaining reader.old) (R.remaining reader.new) MOST_EVENTS_BYTES }
+    ensures no_further { ReadsAtMost (R.remaining reader.old) (R.remaining reader.new)
+        (MOST_EVENTS_BYTES + 1) }
 {
-    let mut rest = bytes;
-    let replayed = replay_audit(alloc, config, &mut rest)?;
-    Ok(replayed.finding())
+    let lines = load_lines(alloc, reader)?;
+    events_of(alloc, &lines, count)
 }
 
 /// Reads an audit that is held whole, and has each entry checked and drawn, in columns by the times
@@ -105,57 +115,100 @@ fn draw_in(
     Ok(drawing)
 }
 
-/// Draws the entries of an audit up to the first bad one, in columns by the times of events.
+/// Draws the entries of an audit up to the first bad one, in columns by the times of the events of
+/// those that are good by this finding.
 fn draw(
     alloc: Global,
     config: &Config,
     bytes: &[u8],
     finding: Finding,
-    events: Vec<Event>,
+    events: &[Event],
 ) -> Result<Drawing, Stop>
-    requires { Rises finding.count None events.items }
-    ensures drawn { IfOk result (IsDrawnByTime config.now bytes.now finding events.items) }
+    requires { Rises finding.count None events.now }
+    ensures drawn { IfOk result (IsDrawnByTime config.now bytes.now finding events.now) }
     ensures refused { IfErr result (TellsFault (Some bytes.now)) }
     ensures own { IfErr result IsInputStop }
 {
     let good = finding.first_bad.unwrap_or(finding.count);
-    let drawn = events_before(&events, good);
+    let drawn = events_before(events, good);
     let columns = columns_by_time(alloc, drawn, good, MOST_COLUMNS)?;
-    draw_in(alloc, config, bytes, columns, events)
+    draw_in(
+        alloc,
+        config,
+        bytes,
+        columns,
+        Vec::from_slice(alloc, events)?,
+    )
 }
 
-/// The document of an audit, of which this was found, and a file of events. Such an audit isn't
-/// refused any more.
+/// What is found of an audit of so many entries, and its drawing in columns by time. Only a drawing
+/// tells which entries are good, and where the columns end goes by these: so all are taken as good
+/// first, and where one is bad the audit is drawn once more.
+fn draw_found(
+    alloc: Global,
+    config: &Config,
+    bytes: &[u8],
+    count: u32,
+    events: &[Event],
+) -> Result<(Finding, Drawing), Stop>
+    requires entries { HasEntries bytes.now count }
+    requires rise { Rises count None events.now }
+    ensures count { IfOk result (λ found. found.0.count ≡ count) }
+    ensures found { IfOk result (λ found. IsFound config.now bytes.now found.0) }
+    ensures drawn { IfOk result
+        (λ found. IsDrawnByTime config.now bytes.now found.0 events.now found.1) }
+    ensures refused { IfErr result (TellsFault (Some bytes.now)) }
+    ensures own { IfErr result IsInputStop }
+{
+    audits_are_unambiguous();
+    let all_good = Finding {
+        count,
+        first_bad: None,
+    };
+    let drawing = draw(alloc, config, bytes, all_good, events)?;
+    let finding = Finding {
+        count,
+        first_bad: drawing.first_bad(),
+    };
+    if finding.first_bad.is_none() {
+        return Ok((finding, drawing));
+    }
+    drop(drawing);
+    let again = draw(alloc, config, bytes, finding, events)?;
+    Ok((finding, again))
+}
+
+/// The document of an audit of so many entries and of their events, and whether the audit is legal.
+/// Such an audit isn't refused any more.
 fn document(
     alloc: Global,
     config: &Config,
     bytes: &[u8],
-    finding: Finding,
-    lines: &[u8],
-) -> Result<String, Stop>
-    requires { IsFound config.now bytes.now finding }
-    ensures done { IfOk result (λ text. (told : List Event)
-        × EventsOf finding.count lines.now (Ok told) × (drawing : Recording)
-        × IsDrawnByTime config.now bytes.now finding told drawing
-        × IsDocument drawing (string_bytes text)) }
+    count: u32,
+    events: &[Event],
+) -> Result<(bool, String), Stop>
+    requires entries { HasEntries bytes.now count }
+    requires rise { Rises count None events.now }
+    ensures done { IfOk result (λ document. (finding : Finding) × (finding.count ≡ count)
+        × IsFound config.now bytes.now finding × (document.0 ≡ is_none finding.first_bad)
+        × (drawing : Recording)
+        × IsDrawnByTime config.now bytes.now finding events.now drawing
+        × IsDocument drawing (string_bytes document.1)) }
     ensures no_audit { IfErr result (λ stop. IfAuditFault stop (λ _. ⊥)) }
-    ensures events_refused { IfErr result (λ stop. IfEventsFault stop
-        (λ fault. EventsOf finding.count lines.now (Err fault))) }
-    ensures own { IfErr result IsTimesStop }
-    ensures no_write { IfErr result (λ stop. stop ≢ Stop.Write) }
+    ensures own { IfErr result IsInputStop }
 {
     audits_are_unambiguous();
-    let events = events_of(alloc, lines, finding.count)?;
-    let drawing = draw(alloc, config, bytes, finding, events)?;
-    Ok(drawing.finish(config)?)
+    let (finding, drawing) = draw_found(alloc, config, bytes, count, events)?;
+    Ok((finding.first_bad.is_none(), drawing.finish(config)?))
 }
 
 /// Reads an audit and a file of events, each from its reader to its end, and writes one SVG
 /// document as `run_show` does, whose columns are laid by the times of the events. The answer is
 /// whether the audit is legal.
 ///
-/// The audit is read and checked first, and then the events are read. All is drawn before the first
-/// byte is written.
+/// The audit is read first, for its faults, and then the events. Then the audit is checked as it is
+/// drawn: once more where an entry is bad, since the columns go by the entries before it. All is
+/// drawn before the first byte is written.
 ///
 /// # Errors
 ///
@@ -191,10 +244,12 @@ pub fn run_show_by_time<R: Read, E: Read, W: Write>(
     ensures no_event_further { ReadsAtMost (E.remaining events.old) (E.remaining events.new)
         (MOST_EVENTS_BYTES + 1) }
 {
+    // Events may be refused before the audit is checked.
+    audits_have_findings();
     let bytes = load_audit(alloc, reader)?;
-    let finding = finding_of(alloc, config, &bytes)?;
-    let lines = load_events(alloc, events)?;
-    let text = document(alloc, config, &bytes, finding, &lines)?;
+    let count = count_entries(alloc, &bytes)?;
+    let told = load_events(alloc, events, count)?;
+    let (legal, text) = document(alloc, config, &bytes, count, &told)?;
     write_bytes(writer, text.as_bytes())?;
-    Ok(finding.first_bad.is_none())
+    Ok(legal)
 }

@@ -2,6 +2,8 @@
 #![tactic(auto)]
 
 mod by_time;
+mod counted;
+mod laws;
 mod show;
 mod sketch;
 
