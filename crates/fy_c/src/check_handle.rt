@@ -1,4 +1,6 @@
 //! The handle by which a program in C holds an audit that is being checked.
+// As `handle.rt`, for a check. One generic handle is refused, [unsupported-generic-in-c]: "a struct
+// with type or const arguments .. is not supported yet in the signature of an exported function".
 ghost use Rattle.std.specs.Prelude.{◌≡◌, ◌≢◌};
 ghost use Rattle.std.specs.Ptr.{null_ptr};
 ghost use Rattle.std.specs.contracts.alloc.Global as heap;
