@@ -1,4 +1,4 @@
--- each audit has a finding
+-- each journal has a finding
 use Rattle.std.proofs.Common.{◌≡◌, ◌⊎◌, ◌<◌, inl, inr, ℕ, Bool, true, false, List, [], ◌∷◌, ◌++◌, length, Option, Some, None, IsTrue, nat_eq, refl, sym, subst, arith, rules, append_assoc, append-nil}
 use Rattle.std.specs.Bool.{Decides}
 use Rattle.std.proofs.Math.Seq.{take-append_seam, take-append-add}
@@ -12,7 +12,7 @@ use Rattle.fy_cluster.specs.Replies.{reply}
 use Rattle.fy_cluster.specs.Setup.{Setup}
 use Rattle.fy_cluster.specs.Versions.{LegalUnder, NextLegalUnder}
 use Rattle.fy_replay.specs.Replayed.{HasFirstBad}
-use Rattle.fy_show.specs.Shows.{AuditsHaveFindings}
+use Rattle.fy_show.specs.Shows.{JournalsHaveFindings}
 
 -- a fact that holds or doesn't
 abbrev Settled : Type 0 → Type 0
@@ -68,8 +68,6 @@ from law tested version c before (e ∷ after) legal =
       )
     ]
 
-pub audits_have_findings : NextLegalUnder → RepliesTested → AuditsHaveFindings
-audits_have_findings law tested setup bytes count has =
-    let none : LegalUnder has.audit.version setup [] = record { legal = (omega arith, tt); known = refl } in
-    let found = from law tested has.audit.version setup [] has.audit.entries none in
-    (found.0, record { audit = has.audit; read = has.read; count = has.count_is; first = found.1 })
+pub journals_have_findings : NextLegalUnder → RepliesTested → JournalsHaveFindings
+journals_have_findings law tested version setup entries =
+    from law tested version setup [] entries (record { legal = (omega arith, tt); known = refl })

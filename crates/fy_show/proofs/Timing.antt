@@ -4,8 +4,10 @@ use Rattle.std.specs.Prelude.{IfSome, is_none, is_some, not}
 use Rattle.std.proofs.lemmas.Bool.{false≢true}
 use Rattle.std.proofs.KnownBytes.{Consumes-nil}
 use Rattle.fy_lines.specs.Readings.{ReadsAtMost}
-use Rattle.fy_audit.specs.Audit.{Audit, AuditOf}
-use Rattle.fy_audit.specs.One.{AuditIsUnambiguous}
+use Rattle.fy_acts.specs.Journal.{Log}
+use Rattle.fy_acts.specs.declared.version.Version.{Version}
+use Rattle.fy_acts.specs.declared.entry.Entry.{Entry}
+use Rattle.fy_audit.specs.Audit.{Audit, AuditOf, audit_of}
 use Rattle.fy_audit.specs.declared.audit.AuditFault.{AuditFault}
 use Rattle.fy_events.specs.Events.{EventsOf}
 use Rattle.fy_events.specs.declared.event.Event.{Event}
@@ -19,7 +21,9 @@ use Rattle.fy_streams.specs.declared.stop.Stop.TheVariants.{JudgeTooLong, JudgeL
 use Rattle.fy_streams.specs.Stops.{IfAuditFault, IfEventsFault}
 use Rattle.fy_picture.specs.Recording.{Recording}
 use Rattle.fy_svg.specs.Documents.{IsDocument}
-use Rattle.fy_show.specs.Shows.{AreRefused, AuditsHaveFindings, HasEntries, HasTimedDocument, IsDrawn, IsDrawnByTime}
+use Rattle.fy_check.specs.Inputs.{IsReadInto}
+use Rattle.fy_show.specs.declared.held.Held.{Held}
+use Rattle.fy_show.specs.Shows.{AreRefused, HasDrawn, HasDrawnByTime, HasTimedDocument, IsDrawnByTime, IsHeld, JournalsHaveFindings}
 
 -- what follows of a fault of the events, whichever it is
 pub map_events : (stop : Stop) (P Q : EventsFault → Type 0) →
@@ -61,61 +65,75 @@ pub holds_known : (known : Option (List ℕ)) (read : List ℕ) (P : List ℕ �
 holds_known None read P same holds = tt
 holds_known (Some bytes) read P same holds = subst P same holds
 
--- an audit in which this was found, and the events of its entries, have a document
-pub has_timed_document : (setup : Setup) (audit events : Option (List ℕ)) (bytes : List ℕ)
-    (count : ℕ) (told : List Event) (legal : Bool) (P : List ℕ → Type 0) →
-    IfSome audit (λ known. bytes ≡ known) →
-    IfSome events (λ lines. EventsOf count lines (Ok told)) →
-    (finding : Finding) → finding.count ≡ count → IsFound setup bytes finding →
+-- the drawing of a journal says which entry is the first bad one
+pub first_of : (setup : Setup) (journal : Log) (ends : List ℕ) (drawing : Recording) →
+    HasDrawn setup journal ends drawing →
+    HasFirstBad journal.version setup journal.entries drawing.first_bad
+first_of setup journal ends drawing drawn =
+    subst (λ v. HasFirstBad v setup journal.entries drawing.first_bad) drawn.version drawn.those.first
+
+-- what is first bad in the journal of an audit was found of it
+found_of : (setup : Setup) (bytes : List ℕ) (held : Held) (finding : Finding) → IsHeld bytes held →
+    finding.count ≡ held.count →
+    HasFirstBad held.journal.version setup held.journal.entries finding.first_bad →
+    IsFound setup bytes finding
+found_of setup bytes held finding is same first =
+    record { audit = audit_of held.journal; read = is.read; count = same ∙ is.count; first = first }
+
+drawn_of : (setup : Setup) (bytes : List ℕ) (held : Held) (finding : Finding) (events : List Event)
+    (drawing : Recording) → IsHeld bytes held →
+    HasDrawnByTime setup held.journal finding events drawing →
+    IsDrawnByTime setup bytes finding events drawing
+drawn_of setup bytes held finding events drawing is drawn = record {
+  columns = drawn.columns;
+  are_columns = drawn.are_columns;
+  drawn = record {
+    audit = audit_of held.journal;
+    read = is.read;
+    version = drawn.drawn.version;
+    those = drawn.drawn.those;
+    laid_is = drawn.drawn.laid;
+  };
+}
+
+-- an audit that is held, and the events of its entries, have a document
+pub has_timed_document : (setup : Setup) (audit events : Option (List ℕ)) (held : Held)
+    (told : List Event) (legal : Bool) (P : List ℕ → Type 0) →
+    IfSome audit (λ bytes. IsHeld bytes held) →
+    IfSome events (λ lines. EventsOf held.count lines (Ok told)) →
+    (finding : Finding) → finding.count ≡ held.count →
+    HasFirstBad held.journal.version setup held.journal.entries finding.first_bad →
     legal ≡ is_none finding.first_bad → (drawing : Recording) →
-    IsDrawnByTime setup bytes finding told drawing →
+    HasDrawnByTime setup held.journal finding told drawing →
     (text : List ℕ) → IsDocument drawing text → P text → HasTimedDocument setup audit events legal P
-has_timed_document setup None events bytes count told legal P read_audit are finding same found is drawing drawn text of holds = tt
-has_timed_document setup (Some known) None bytes count told legal P read_audit are finding same found is drawing drawn text of holds = tt
-has_timed_document setup (Some known) (Some lines) bytes count told legal P read_audit are finding same found is drawing drawn text of holds = (
+has_timed_document setup None events held told legal P is are finding same first legal_is drawing drawn text of holds = tt
+has_timed_document setup (Some bytes) None held told legal P is are finding same first legal_is drawing drawn text of holds = tt
+has_timed_document setup (Some bytes) (Some lines) held told legal P is are finding same first legal_is drawing drawn text of holds = (
   finding,
-  subst (λ xs. IsFound setup xs finding) read_audit found,
+  found_of setup bytes held finding is same first,
   (
-    is,
+    legal_is,
     told,
     subst (λ n. EventsOf n lines (Ok told)) (sym same) are,
     drawing,
-    subst (λ xs. IsDrawnByTime setup xs finding told drawing) read_audit drawn,
+    drawn_of setup bytes held finding told drawing is drawn,
     text,
     of,
     holds,
   ),
 )
 
--- an audit that was read, and events that are refused
-pub are_refused : (setup : Setup) (audit events : Option (List ℕ)) (bytes : List ℕ) (count : ℕ)
-    (fault : EventsFault) → AuditsHaveFindings → IfSome audit (λ known. bytes ≡ known) →
-    HasEntries bytes count → IfSome events (λ lines. EventsOf count lines (Err fault)) →
+-- an audit that is held, and events that are refused
+pub are_refused : (setup : Setup) (audit events : Option (List ℕ)) (held : Held)
+    (fault : EventsFault) → JournalsHaveFindings → IfSome audit (λ bytes. IsHeld bytes held) →
+    IfSome events (λ lines. EventsOf held.count lines (Err fault)) →
     AreRefused setup audit events fault
-are_refused setup None events bytes count fault law read_audit has refused = tt
-are_refused setup (Some known) None bytes count fault law read_audit has refused = tt
-are_refused setup (Some known) (Some lines) bytes count fault law read_audit has refused =
-    let found = law setup bytes count has in
-    let finding : Finding = record { count = count; first_bad = found.0 } in
-    (finding, subst (λ xs. IsFound setup xs finding) read_audit found.1, refused)
-
--- bytes are one audit
-one_audit : AuditIsUnambiguous → (bytes : List ℕ) (a b : Audit) → AuditOf bytes (Ok a) →
-    AuditOf bytes (Ok b) → a ≡ b
-one_audit one bytes a b p q = let same = one bytes (Ok a) (Ok b) p q in cc
-
--- what the drawing of an audit says of its first bad entry was found
-pub found_of : AuditIsUnambiguous → (setup : Setup) (bytes : List ℕ) (count : ℕ)
-    (laid : Option (List ℕ)) (drawing : Recording) → HasEntries bytes count →
-    IsDrawn setup bytes laid drawing →
-    IsFound setup bytes (record { count = count; first_bad = drawing.first_bad })
-found_of one setup bytes count laid drawing has drawn = record {
-  audit = drawn.audit;
-  read = drawn.read;
-  count = has.count_is
-      ∙ ap (λ (a : Audit). length a.entries) (one_audit one bytes has.audit drawn.audit has.read drawn.read);
-  first = subst (λ v. HasFirstBad v setup drawn.audit.entries drawing.first_bad) drawn.version drawn.those.first;
-}
+are_refused setup None events held fault law is refused = tt
+are_refused setup (Some bytes) None held fault law is refused = tt
+are_refused setup (Some bytes) (Some lines) held fault law is refused =
+    let found = law held.journal.version setup held.journal.entries in
+    let finding : Finding = record { count = held.count; first_bad = found.0 } in
+    (finding, found_of setup bytes held finding is refl found.1, refused)
 
 -- where a test says that there is none, there is none
 pub none_where : (o : Option ℕ) (none : Bool) → not none ≡ is_some o → none ≡ true → o ≡ None
@@ -123,23 +141,16 @@ none_where None none same is = refl
 none_where (Some at) true same is = absurd (false≢true same)
 none_where (Some at) false same is = absurd (false≢true is)
 
--- an audit, and no fault of one
-abbrev IsRead : Result Audit AuditFault → Type 0
-IsRead (Ok audit) = Unit {0}
-IsRead (Err fault) = ⊥
-
--- an audit is refused by no fault
-pub unrefused : AuditIsUnambiguous → (bytes : List ℕ) (count : ℕ) → HasEntries bytes count →
-    (stop : Stop) → IfAuditFault stop (λ fault. AuditOf bytes (Err fault)) →
-    IfAuditFault stop (λ _. ⊥)
-unrefused one bytes count has JudgeTooLong refused = tt
-unrefused one bytes count has (JudgeLine line fault) refused = tt
-unrefused one bytes count has (Config fault) refused = tt
-unrefused one bytes count has (Script fault) refused = tt
-unrefused one bytes count has JournalFull refused = tt
-unrefused one bytes count has (AuditStop fault) refused = subst IsRead (one bytes (Ok has.audit) (Err fault) has.read refused) tt
-unrefused one bytes count has (Events fault) refused = tt
-unrefused one bytes count has SwarmClose refused = tt
-unrefused one bytes count has Read refused = tt
-unrefused one bytes count has Write refused = tt
-unrefused one bytes count has NoMemory refused = tt
+-- where a journal has what was read, its bytes are the audit of it
+pub is_held : (known : Option (List ℕ)) (read begun : Version) (held : Held) → begun ≡ read →
+    IfSome known (λ bytes. IsReadInto bytes read held.count
+    (λ entries. (held.journal.entries ≡ entries) × (held.journal.version ≡ begun))) →
+    IfSome known (λ bytes. IsHeld bytes held)
+is_held None read begun held is has = tt
+is_held (Some bytes) read begun held is has =
+    let version : has.audit.version ≡ held.journal.version = sym (has.holds.1 ∙ is ∙ has.version_is) in
+    let moved = subst (λ v. AuditOf bytes (Ok (let a : Audit = record { version = v; entries = has.audit.entries } in a))) version has.read in
+    record {
+      read = subst (λ es. AuditOf bytes (Ok (let a : Audit = record { version = held.journal.version; entries = es } in a))) (sym has.holds.0) moved;
+      count = has.count_is ∙ sym (ap (λ (es : List Entry). length es) has.holds.0);
+    }

@@ -1,6 +1,9 @@
 -- what show writes of an audit
 use Rattle.std.specs.Prelude.{◌≡◌, ℕ, Bool, List, Option, Some, None, IfSome, Ok, Err, is_none, length, unwrap_or}
-use Rattle.fy_audit.specs.Audit.{Audit, AuditOf}
+use Rattle.fy_acts.specs.Journal.{Log}
+use Rattle.fy_acts.specs.declared.entry.Entry.{Entry}
+use Rattle.fy_acts.specs.declared.version.Version.{Version}
+use Rattle.fy_audit.specs.Audit.{Audit, AuditOf, audit_of}
 use Rattle.fy_cluster.specs.Setup.{Setup}
 use Rattle.fy_check.specs.CheckTexts.{IsFound}
 use Rattle.fy_check.specs.Checked.{IsChecked}
@@ -12,7 +15,9 @@ use Rattle.fy_events.specs.declared.event.Event.{Event}
 use Rattle.fy_events.specs.declared.events.EventsFault.{EventsFault}
 use Rattle.fy_picture.specs.Recording.{HasRecorded, Recording}
 use Rattle.fy_picture.specs.declared.TheConstants.{MOST_COLUMNS}
+use Rattle.fy_replay.specs.Replayed.{HasFirstBad}
 use Rattle.fy_svg.specs.Documents.{IsDocument}
+use Rattle.fy_show.specs.declared.held.Held.{Held}
 use Rattle.fy_show.specs.declared.show.Drawn.{Drawn}
 
 -- how many entries are before the first bad one
@@ -51,17 +56,31 @@ HasDocument setup known legal P =
     × (drawing : Recording) × IsDrawn setup bytes None drawing
     × (text : List ℕ) × IsDocument drawing text × P text)
 
--- the bytes are an audit of so many entries
-pub record HasEntries (bytes : List ℕ) (count : ℕ) : Type 0 where
-  pub audit : Audit
-  pub read : AuditOf bytes (Ok audit)
-  pub count_is : count ≡ length audit.entries
+-- the bytes are the audit of the journal that is held, and so many entries are in it
+pub record IsHeld (bytes : List ℕ) (held : Held) : Type 0 where
+  pub read : AuditOf bytes (Ok (audit_of held.journal))
+  pub count : held.count ≡ length held.journal.entries
 
--- each audit has a finding: it is legal, or has a first bad entry
-abbrev pub AuditsHaveFindings : Type 0
-AuditsHaveFindings =
-    (setup : Setup) (bytes : List ℕ) (count : ℕ) → HasEntries bytes count →
-    (first_bad : Option ℕ) × IsFound setup bytes (record { count = count; first_bad = first_bad })
+-- the entries of a journal were drawn up to the first bad one, in columns that end as listed
+pub record HasDrawn (setup : Setup) (journal : Log) (ends : List ℕ) (drawing : Recording) : Type 0
+  where
+    pub those : HasRecorded setup journal.entries drawing
+    pub version : drawing.version ≡ journal.version
+    pub laid : drawing.columns.laid ≡ Some ends
+
+-- they were, in the columns that the events of the good ones give
+pub record HasDrawnByTime (setup : Setup) (journal : Log) (finding : Finding) (events : List Event)
+    (drawing : Recording) : Type 0 where
+  pub columns : TimeColumns
+  pub are_columns : AreTimeColumns (events_before events (good_of finding)) (good_of finding)
+      MOST_COLUMNS columns
+  pub drawn : HasDrawn setup journal columns.ends.items drawing
+
+-- each journal is legal under its version or has a first bad entry
+abbrev pub JournalsHaveFindings : Type 0
+JournalsHaveFindings =
+    (version : Version) (setup : Setup) (entries : List Entry) →
+    (first_bad : Option ℕ) × HasFirstBad version setup entries first_bad
 
 -- known bytes of an audit, its finding, and known bytes of a file of events
 abbrev pub IfBothKnown : Setup → (audit events : Option (List ℕ))

@@ -1,5 +1,5 @@
 //! An audit and the events of its run in, a picture by time out.
-ghost use Rattle.std.specs.Prelude.{◌≡◌, ◌≢◌, ◌⊎◌, ◌+◌, ℕ, Bool, None, Some, IfOk, IfErr, IfSome, Ok, Err, is_none, string_bytes};
+ghost use Rattle.std.specs.Prelude.{◌≡◌, ◌≢◌, ◌⊎◌, ◌+◌, ℕ, Bool, None, IfOk, IfErr, IfSome, Ok, Err, is_none, string_bytes};
 ghost use Rattle.std.specs.Io.KnownBytes.{Appends};
 ghost use Rattle.fy_lines.specs.Prefixes.{AppendsProperPrefix};
 ghost use Rattle.fy_lines.specs.Readings.{ReadsAtMost};
@@ -7,19 +7,17 @@ ghost use Rattle.fy_audit.specs.declared.audit.TheConstants.{MOST_AUDIT_BYTES};
 ghost use Rattle.fy_events.specs.Events.{EventsOf, Rises};
 ghost use Rattle.fy_events.specs.declared.TheConstants.{MOST_EVENTS_BYTES};
 ghost use Rattle.fy_streams.specs.Stops.{IfAuditFault, IfEventsFault, IsTimesStop};
-ghost use Rattle.fy_check.specs.CheckTexts.{IsFound};
 ghost use Rattle.fy_check.specs.declared.check.Finding.{Finding};
-ghost use Rattle.fy_check.specs.Inputs.{IsInputStop, TellsFault};
+ghost use Rattle.fy_check.specs.Inputs.{TellsFault};
 ghost use Rattle.fy_picture.specs.Recording.{Recording};
+ghost use Rattle.fy_replay.specs.Replayed.{HasFirstBad};
 ghost use Rattle.fy_svg.specs.Documents.{IsDocument};
-ghost use Rattle.fy_show.specs.Shows.{AreRefused, HasEntries, HasTimedDocument, IsDrawn, IsDrawnByTime};
+ghost use Rattle.fy_show.specs.Shows.{AreRefused, HasDrawn, HasDrawnByTime, HasTimedDocument};
 
-use crate::counted::count_entries;
-use crate::laws::audits_have_findings;
-use crate::sketch::Sketch;
-use fy_audit::MOST_AUDIT_BYTES;
-use fy_audit::laws::audits_are_unambiguous;
-use fy_check::{AuditInput, Finding, load_audit};
+use crate::held::{Held, hold};
+use crate::laws::journals_have_findings;
+use fy_audit::{Journal, MOST_AUDIT_BYTES};
+use fy_check::Finding;
 use fy_cluster::Config;
 use fy_events::{
     Event, EventsFault, MOST_EVENTS_BYTES, TimeColumns, columns_by_time, events_before, read_events,
@@ -28,7 +26,7 @@ use fy_lines::{InputFault, read_limited, write_bytes};
 use fy_picture::MOST_COLUMNS;
 use fy_streams::Stop;
 use fy_svg::Drawing;
-use std::alloc::Global;
+use std::alloc::{AllocError, Global};
 use std::io::{Read, Write};
 
 /// The bytes of the file of events that a reader gives.
@@ -92,42 +90,36 @@ fn load_events<R: Read>(alloc: Global, reader: &mut R, count: u32) -> Result<Vec
     events_of(alloc, &lines, count)
 }
 
-/// Reads an audit that is held whole, and has each entry checked and drawn, in columns by the times
-/// of events.
+/// Has each entry of a journal checked and drawn, in columns by the times of events.
 fn draw_in(
     alloc: Global,
     config: &Config,
-    bytes: &[u8],
+    journal: &Journal,
     columns: TimeColumns,
     events: Vec<Event>,
-) -> Result<Drawing, Stop>
-    ensures drawn { IfOk result (IsDrawn config.now bytes.now (Some columns.ends.items)) }
-    ensures refused { IfErr result (TellsFault (Some bytes.now)) }
-    ensures own { IfErr result IsInputStop }
+) -> Result<Drawing, AllocError>
+    ensures { IfOk result (HasDrawn config.now journal.now columns.ends.items) }
 {
-    let mut rest = bytes;
-    let mut input = AuditInput::begin(alloc, &mut rest)?;
-    let version = input.version();
-    let drawing = Drawing::begin_by_time(alloc, config, version, columns, events)?;
-    let mut sketch = Sketch(drawing);
-    input.read_into(&mut rest, &mut sketch)?;
-    let Sketch(drawing) = sketch;
+    journal.invariant();
+    let version = journal.version();
+    let mut drawing = Drawing::begin_by_time(alloc, config, version, columns, events)?;
+    for entry in journal.entries() {
+        drawing.enter(entry.try_copy(alloc)?)?;
+    }
     Ok(drawing)
 }
 
-/// Draws the entries of an audit up to the first bad one, in columns by the times of the events of
+/// Draws the entries of a journal up to the first bad one, in columns by the times of the events of
 /// those that are good by this finding.
 fn draw(
     alloc: Global,
     config: &Config,
-    bytes: &[u8],
+    journal: &Journal,
     finding: Finding,
     events: &[Event],
-) -> Result<Drawing, Stop>
+) -> Result<Drawing, AllocError>
     requires { Rises finding.count None events.now }
-    ensures drawn { IfOk result (IsDrawnByTime config.now bytes.now finding events.now) }
-    ensures refused { IfErr result (TellsFault (Some bytes.now)) }
-    ensures own { IfErr result IsInputStop }
+    ensures { IfOk result (HasDrawnByTime config.now journal.now finding events.now) }
 {
     let good = finding.first_bad.unwrap_or(finding.count);
     let drawn = events_before(events, good);
@@ -135,37 +127,34 @@ fn draw(
     draw_in(
         alloc,
         config,
-        bytes,
+        journal,
         columns,
         Vec::from_slice(alloc, events)?,
     )
 }
 
-/// What is found of an audit of so many entries, and its drawing in columns by time. Only a drawing
-/// tells which entries are good, and where the columns end goes by these: so all are taken as good
-/// first, and where one is bad the audit is drawn once more.
+/// What is found of an audit that is held, and its drawing in columns by time. Only a drawing tells
+/// which entries are good, and where the columns end goes by these: so all are taken as good first,
+/// and where one is bad the audit is drawn once more.
 fn draw_found(
     alloc: Global,
     config: &Config,
-    bytes: &[u8],
-    count: u32,
+    held: &Held,
     events: &[Event],
-) -> Result<(Finding, Drawing), Stop>
-    requires entries { HasEntries bytes.now count }
-    requires rise { Rises count None events.now }
-    ensures count { IfOk result (λ found. found.0.count ≡ count) }
-    ensures found { IfOk result (λ found. IsFound config.now bytes.now found.0) }
-    ensures drawn { IfOk result
-        (λ found. IsDrawnByTime config.now bytes.now found.0 events.now found.1) }
-    ensures refused { IfErr result (TellsFault (Some bytes.now)) }
-    ensures own { IfErr result IsInputStop }
+) -> Result<(Finding, Drawing), AllocError>
+    requires { Rises held.now.count None events.now }
+    ensures count { IfOk result (λ found. found.0.count ≡ held.now.count) }
+    ensures first { IfOk result (λ found. HasFirstBad held.now.journal.version config.now
+        held.now.journal.entries found.0.first_bad) }
+    ensures drawn { IfOk result (λ found.
+        HasDrawnByTime config.now held.now.journal found.0 events.now found.1) }
 {
-    audits_are_unambiguous();
+    let count = held.count;
     let all_good = Finding {
         count,
         first_bad: None,
     };
-    let drawing = draw(alloc, config, bytes, all_good, events)?;
+    let drawing = draw(alloc, config, &held.journal, all_good, events)?;
     let finding = Finding {
         count,
         first_bad: drawing.first_bad(),
@@ -174,31 +163,25 @@ fn draw_found(
         return Ok((finding, drawing));
     }
     drop(drawing);
-    let again = draw(alloc, config, bytes, finding, events)?;
+    let again = draw(alloc, config, &held.journal, finding, events)?;
     Ok((finding, again))
 }
 
-/// The document of an audit of so many entries and of their events, and whether the audit is legal.
-/// Such an audit isn't refused any more.
+/// The document of an audit that is held and of its events, and whether the audit is legal.
 fn document(
     alloc: Global,
     config: &Config,
-    bytes: &[u8],
-    count: u32,
+    held: &Held,
     events: &[Event],
-) -> Result<(bool, String), Stop>
-    requires entries { HasEntries bytes.now count }
-    requires rise { Rises count None events.now }
-    ensures done { IfOk result (λ document. (finding : Finding) × (finding.count ≡ count)
-        × IsFound config.now bytes.now finding × (document.0 ≡ is_none finding.first_bad)
-        × (drawing : Recording)
-        × IsDrawnByTime config.now bytes.now finding events.now drawing
+) -> Result<(bool, String), AllocError>
+    requires { Rises held.now.count None events.now }
+    ensures { IfOk result (λ document. (finding : Finding) × (finding.count ≡ held.now.count)
+        × HasFirstBad held.now.journal.version config.now held.now.journal.entries finding.first_bad
+        × (document.0 ≡ is_none finding.first_bad) × (drawing : Recording)
+        × HasDrawnByTime config.now held.now.journal finding events.now drawing
         × IsDocument drawing (string_bytes document.1)) }
-    ensures no_audit { IfErr result (λ stop. IfAuditFault stop (λ _. ⊥)) }
-    ensures own { IfErr result IsInputStop }
 {
-    audits_are_unambiguous();
-    let (finding, drawing) = draw_found(alloc, config, bytes, count, events)?;
+    let (finding, drawing) = draw_found(alloc, config, held, events)?;
     Ok((finding.first_bad.is_none(), drawing.finish(config)?))
 }
 
@@ -206,9 +189,9 @@ fn document(
 /// document as `run_show` does, whose columns are laid by the times of the events. The answer is
 /// whether the audit is legal.
 ///
-/// The audit is read first, for its faults, and then the events. Then the audit is checked as it is
-/// drawn: once more where an entry is bad, since the columns go by the entries before it. All is
-/// drawn before the first byte is written.
+/// The audit is read first, for its faults, and its entries are held; then the events are read. Then
+/// the entries are checked as they are drawn: once more where one is bad, since the columns go by
+/// those before it. All is drawn before the first byte is written.
 ///
 /// # Errors
 ///
@@ -245,11 +228,10 @@ pub fn run_show_by_time<R: Read, E: Read, W: Write>(
         (MOST_EVENTS_BYTES + 1) }
 {
     // Events may be refused before the audit is checked.
-    audits_have_findings();
-    let bytes = load_audit(alloc, reader)?;
-    let count = count_entries(alloc, &bytes)?;
-    let told = load_events(alloc, events, count)?;
-    let (legal, text) = document(alloc, config, &bytes, count, &told)?;
+    journals_have_findings();
+    let held = hold(alloc, reader)?;
+    let told = load_events(alloc, events, held.count)?;
+    let (legal, text) = document(alloc, config, &held, &told)?;
     write_bytes(writer, text.as_bytes())?;
     Ok(legal)
 }

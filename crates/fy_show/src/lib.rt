@@ -2,7 +2,7 @@
 #![tactic(auto)]
 
 mod by_time;
-mod counted;
+mod held;
 mod laws;
 mod show;
 mod sketch;
