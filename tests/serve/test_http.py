@@ -287,7 +287,8 @@ class Wrong(Case):
         status, text = server.ask("POST", "/v1/acts", kill(0), Authorization=ONE)
         self.assertEqual(status, 200)
         count = json.loads(text)["at"] + 1
-        self.assertGreater(count, REQUESTS // 60)  # Some were right.
+        # Some were right. How many were made goes by who waited for an answer.
+        self.assertGreater(count, REQUESTS // 100)
         self.assertEqual(json.loads(server.talk().ask(kill(0)))["at"], count)
         for client in slow:
             client.close()
