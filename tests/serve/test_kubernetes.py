@@ -22,6 +22,10 @@ case "$1 $2" in
 *) echo "$*" >> "$KUBECTL_LOG" ;;
 esac
 """
+# What has the store forget a pod, before it is deleted.
+RENEW = """#!/bin/sh
+echo "renew $*" >> "$KUBECTL_LOG"
+"""
 
 
 class Kubernetes(Case):
@@ -29,8 +33,9 @@ class Kubernetes(Case):
         make, ask = re.findall(r"^```sh\n(.*?)^```$", PAGE, re.M | re.S)
         bin = self.folder / "bin"
         bin.mkdir()
-        (bin / "kubectl").write_text(KUBECTL)
-        (bin / "kubectl").chmod(0o755)
+        for name, text in (("kubectl", KUBECTL), ("renew", RENEW)):
+            (bin / name).write_text(text)
+            (bin / name).chmod(0o755)
         log = self.folder / "log"
         env = {**os.environ, "PATH": f"{bin}:{os.environ['PATH']}", "KUBECTL_LOG": str(log)}
         made = run("sh", "-eu", input=make, env=env)
@@ -50,8 +55,8 @@ class Kubernetes(Case):
         ready = "wait --for=condition=Ready pod/store-{} --timeout=10m"
         self.assertEqual(
             log.read_text().splitlines(),
-            ["delete pvc data-store-0 --wait=false", f"delete pod store-0 {gone}", ready.format(0)]
-            + [f"delete pod store-2 {gone}", ready.format(2)],
+            ["renew store-0", "delete pvc data-store-0 --wait=false", f"delete pod store-0 {gone}"]
+            + [ready.format(0), f"delete pod store-2 {gone}", ready.format(2)],
         )
         self.assertEqual(server.check(), "legal 4")
 

@@ -13,7 +13,7 @@ from source import ROOT
 NAME = re.compile(r"\w+(?:(?:::|\.|/)\w+)*(?:::\{[\w, ]+\})?(?:\(\))?")
 FENCED = re.compile(r"(?ms)^ *```.*?^ *```$")
 # What holds names that are gone, or that never were.
-APART = ("patches/", "CHANGELOG.md")
+APART = ("CHANGELOG.md",)
 
 # Names that others gave: stores, their settings and files, tools of the system.
 OTHERS = {

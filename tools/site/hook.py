@@ -1,7 +1,8 @@
 """What mkdocs lacks for pages that stand all over a repository and are written for GitHub.
 
 Files keep their place in the repository, so that each link leads where it leads there. Anchors are
-those of GitHub, and a list in a list may be indented by two or three spaces.
+those of GitHub, a list in a list may be indented by two to four spaces, behind the language of a
+block of code may stand words for its tests, and a link that is named by its file gets its title.
 """
 
 # Debian's mkdocs and markdown have no types.
@@ -17,18 +18,39 @@ from typing import Any
 from markdown import Markdown
 from markdown.blockprocessors import ListIndentProcessor, OListProcessor, UListProcessor
 from markdown.extensions import Extension
+from markdown.preprocessors import Preprocessor
 from mkdocs.structure.files import File, Files
 
 ROOT = Path(__file__).resolve().parents[2]
 # Code holds no links.
 CODE = re.compile(r"(?ms)^ *```.*?^ *```$|`[^`\n]*`")
 LINK = re.compile(r"\]\((?![a-z]+:)([^)#\s]+)")
+# A link whose text is the file that it leads to.
+NAMED = re.compile(r"\[([A-Z]+)(?:\.md)?\](\((?![a-z]+:)([^)#\s]*?\1\.md)(?:#[^)\s]*)?\))")
+# The first line of a block of code, as "rust,no_run" has it for rustdoc.
+FENCE = re.compile(r"(?m)^( *```\w+)[, ][^`\n]*$")
+
+
+class LongNumbers(Preprocessor):
+    """What belongs to item 10 or a later one is indented by four spaces. Here they become three, as
+    in the items before."""
+
+    def run(self, lines: list[str]) -> list[str]:
+        is_long = False
+        for place, line in enumerate(lines):
+            if line[:1].strip():
+                is_long = bool(re.match(r"\d\d+\. ", line))
+            if is_long and line.startswith("    "):
+                lines[place] = line[1:]
+        return lines
 
 
 class GitHubLists(Extension):
     """A list in a list is indented by two spaces or more; Python-Markdown asks for four."""
 
     def extendMarkdown(self, md: Markdown) -> None:
+        # Blocks of code, which come at 25, are left as they are.
+        md.preprocessors.register(LongNumbers(md), "long_numbers", 20)
         tab_length, md.tab_length = md.tab_length, 2
         processors = md.parser.blockprocessors
         # The names and the order of the processors that they stand for.
@@ -41,15 +63,6 @@ class GitHubLists(Extension):
 def anchor(heading: str, separator: str) -> str:
     """The anchor of a heading, as GitHub makes it."""
     return re.sub(r"[^\w\- ]", "", heading).strip().lower().replace(" ", separator)
-
-
-def pages_of(nav: Any) -> Iterator[str]:
-    """The pages of a navigation, in its order."""
-    if isinstance(nav, str):
-        yield nav
-        return
-    for it in nav.values() if isinstance(nav, dict) else nav:
-        yield from pages_of(it)
 
 
 def linked(page: str) -> Iterator[str]:
@@ -67,11 +80,35 @@ def on_config(config: Any) -> Any:
     return config
 
 
+def titles_of(nav: Any, title: str = "") -> Iterator[tuple[str, str]]:
+    """The pages of a navigation, each with its title there."""
+    if isinstance(nav, str):
+        yield nav, title
+    elif isinstance(nav, dict):
+        for title, below in nav.items():
+            yield from titles_of(below, title)
+    else:
+        for it in nav:
+            yield from titles_of(it, title)
+
+
+def on_page_markdown(markdown: str, page: Any, config: Any, **_: Any) -> str:
+    """The page, in which a link to a file of the navigation has the title that it has there."""
+    titles, folder = dict(titles_of(config["nav"])), (ROOT / page.file.src_path).parent
+
+    def titled(link: re.Match[str]) -> str:
+        target = (folder / link[3]).resolve()
+        file = target.relative_to(ROOT).as_posix() if target.is_relative_to(ROOT) else ""
+        return f"[{titles[file]}]{link[2]}" if file in titles else link[0]
+
+    return NAMED.sub(titled, FENCE.sub(r"\1", markdown))
+
+
 def on_files(files: Files, config: Any) -> Files:
     """The pages of the navigation, what they link to, our style and script, beside the theme's own
     files."""
     own = [*config["extra_css"], *config["extra_javascript"]]
-    found = dict.fromkeys([*pages_of(config["nav"]), *own])
+    found = dict.fromkeys([*(page for page, _ in titles_of(config["nav"])), *own])
     waiting = list(found)
     while waiting:
         page = waiting.pop()

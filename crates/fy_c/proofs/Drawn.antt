@@ -1,6 +1,6 @@
--- plans: how many words they take, and what is told of their acts
+-- plans: how many words they take, what is told of their acts, and what is given of them
 use Rattle.std.proofs.Common.{arith, ◌≡◌, ◌∙◌, ◌≤◌, ◌+◌, ◌-◌, ℕ, zero, suc, List, [], ◌∷◌, ◌++◌, length, map, refl, sym, ap, ap₂, subst}
-use Rattle.std.specs.Prelude.{take, drop, replicate}
+use Rattle.std.specs.Prelude.{take, drop, replicate, Result, Ok, Err, IfOk, IfErr}
 use Rattle.std.proofs.lemmas.List.{take_all, length_push}
 use Rattle.std.proofs.lemmas.List.FromFn.{length-map-range_with_len}
 use Rattle.rand_chacha.specs.ChaCha.{ChaCha}
@@ -17,7 +17,8 @@ use Rattle.fy_players.specs.Draws.{stream_of}
 use Rattle.fy_players.specs.Faults.{FaultState, fault_of}
 use Rattle.fy_players.specs.Orders.{StrikesOnce, StrikesInTurn}
 use Rattle.fy_c.specs.declared.planning.FyOrder.{FyOrder}
-use Rattle.fy_c.specs.Planning.{order_of, orders_of, clog_of, unclog_of, kill_of, AreOrdersOf}
+use Rattle.fy_c.specs.declared.status.Status.{Status}
+use Rattle.fy_c.specs.Planning.{order_of, orders_of, clog_of, unclog_of, kill_of, AreOrdersOf, Gives}
 
 -- ---- words
 
@@ -115,3 +116,22 @@ told_all processes plan seed actor count now orders are = record {
   turns = are.all;
   told = are.told;
 }
+
+-- ---- what is given
+
+-- what a plan is of which orders are given, and what is told of none
+pub given : {V : Type 0} (items : V → List FyOrder) (IsPlan : V → Type 0)
+    (Holds : List FyOrder → List FyOrder → ℕ → Status → Type 0) (plan : Result V Status)
+    (before after : List FyOrder) (told : ℕ) (status : Status) →
+    ((it : V) → IsPlan it → Gives (items it) before after told status →
+    Holds before after told status) →
+    IfOk plan IsPlan → IfErr plan (λ why. (orders : List FyOrder) → Holds orders orders 0 why) →
+    IfOk plan (λ it. Gives (items it) before after told status) →
+    IfErr plan (λ why. (status ≡ why) × (told ≡ 0) × (after ≡ before)) →
+    Holds before after told status
+given items IsPlan Holds (Ok it) before after told status holds is none gives stays =
+    holds it is gives
+given items IsPlan Holds (Err why) before after told status holds is none gives stays =
+    subst (Holds before after told) (sym stays.0)
+    (subst (λ n. Holds before after n why) (sym stays.1)
+    (subst (λ orders. Holds before orders 0 why) (sym stays.2) (none before)))

@@ -1,6 +1,5 @@
 mod Begun
 mod Bits
-mod CheckValues
 mod Checked
 mod Drawn
 mod Exact
@@ -13,6 +12,7 @@ mod Made
 mod Missing
 mod Opened
 mod Orders
+mod Placed
 mod Processes
 mod Sent
 mod Values

@@ -1,4 +1,4 @@
--- The machine values of a `Loose` and of a `OnceBox`. Assumes `Logic`.
+-- The machine values of a `Loose` and of a handle. Assumes `Logic`.
 use Rattle.std.proofs.Common.{◌≡◌, ℕ, List, [], ◌∷◌, ◌++◌, refl, subst}
 use mathlib.Core.Bool.{true, ◌&&◌}
 use lib.Dec.{T}
@@ -7,9 +7,10 @@ use mir.Syntax.{impl, tnil, dnil}
 use mir.Raw.{raw as bare}
 use mir.Val.{Val, vptr, vstruct, vcons, vnil, of_list, has_ty, WT}
 use base.Logic.{never, fst∗}
+use base.Fml.{Fml, feq, fsep, fex}
 use types.Logic.{Logic, sem}
 use types.Kit.{Item, Goal, Seq, Step, step, ‵, ◌$◌, move, drop, fsplit, fjoin, fpick, fpack, feq_i, feq_l}
-use denote.RattleType.{RattleType, Valss}
+use denote.RattleType.{RattleType, Valss, flat, owns}
 use denote.Builtin.{RawPtr}
 use denote.Memory.{lone}
 use denote.RawPtr.{Ptr, block_ptr, null_ptr, ptr_val, in_a_block}
@@ -26,8 +27,6 @@ use Rattle.std_alloc.proofs.ResultValues.{and_tt}
 use Rattle.fy_c.specs.contracts.loose.Loose as loose
 use Rattle.std.specs.contracts.impls.GlobalAllocator.TheImpl.{ghosts}
 use Rattle.std.specs.Ptr.{if_non_null}
-use Rattle.fy_c.specs.contracts.handle.FyGuard as handle
-use Rattle.fy_cluster.specs.contracts.cluster.Cluster as inner
 use Rattle.std.specs.contracts.alloc.Global as heap
 
 abbrev pub both : Val → Val → Val
@@ -70,25 +69,28 @@ pub block_differs : (b o : ℕ) → block_ptr b o ≡ null_ptr → ⊥
 unfolding IsBlock
 block_differs b o e = subst IsBlock e tt
 
-abbrev pub Hd : RattleType
-Hd = handle.the_row
+-- what an open handle of a value of this type owns: the struct of its pointer alone, and the box
+abbrev pub Held : (R : RattleType) → Ptr → heap.the_row.Denot → R.Denot → List Val → Fml
+Held R p a x vs =
+    fsep (fex (Valss (RawPtr ∷ [])) (λ vss. fsep (feq (List Val) vs (vstruct (of_list (flat (RawPtr ∷ []) vss)) ∷ [])) (owns (RawPtr ∷ []) (p, tt) vss)))
+    (if_non_null p (box_owns (ghosts.dealloc_token a) R p x))
 
 module _ {M : Type 1} {𝓤 : Ura M} {𝓛 : Logic 𝓤} {K : Type 0} {Γ : List (Item 𝓤)} {G : Goal 𝓤 𝓛.H} where
   -- a pointer that isn't null is that of a block
-  pub at_block : K → (p : Ptr) (F : Ptr → base.Fml.Fml) → (p ≡ null_ptr → ⊥) → ((b o : ℕ) → p ≡ block_ptr b o → Seq K 𝓛 (‵ (F (block_ptr b o)) ∷ Γ) G) → Seq K 𝓛 (‵ (F p) ∷ Γ) G
+  at_block : K → (p : Ptr) (F : Ptr → Fml) → (p ≡ null_ptr → ⊥) → ((b o : ℕ) → p ≡ block_ptr b o → Seq K 𝓛 (‵ (F (block_ptr b o)) ∷ Γ) G) → Seq K 𝓛 (‵ (F p) ∷ Γ) G
   at_block t (block_ptr b o) F some k = k b o refl
   at_block t null_ptr F some k = absurd (some refl)
 
-  pub handle_out : K → (d : Hd.Denot) (vs : List Val) → (d.at ≡ null_ptr → ⊥)
-      → ((b o : ℕ) → d.at ≡ block_ptr b o → vs ≡ single (vptr b o) ∷ [] → Seq K 𝓛 (‵ (box_owns (ghosts.dealloc_token d.alloc) inner.the_row (block_ptr b o) d.value) ∷ Γ) G)
-      → Seq K 𝓛 (‵ (Hd.own_val d vs) ∷ Γ) G
-  handle_out t d vs some k =
+  pub handle_out : K → (R : RattleType) (p : Ptr) (a : heap.the_row.Denot) (x : R.Denot) (vs : List Val) → (p ≡ null_ptr → ⊥)
+      → ((b o : ℕ) → p ≡ block_ptr b o → vs ≡ single (vptr b o) ∷ [] → Seq K 𝓛 (‵ (box_owns (ghosts.dealloc_token a) R (block_ptr b o) x) ∷ Γ) G)
+      → Seq K 𝓛 (‵ (Held R p a x vs) ∷ Γ) G
+  handle_out t R p a x vs some k =
       fsplit t $ fpick t (λ vss. fsplit t $ feq_l t (λ ev. fsplit t $ feq_l t (λ ep. drop t $
-      at_block t d.at (λ p. if_non_null p (box_owns (ghosts.dealloc_token d.alloc) inner.the_row p d.value)) some (λ b o e. k b o e
+      at_block t p (λ p. if_non_null p (box_owns (ghosts.dealloc_token a) R p x)) some (λ b o e. k b o e
       (subst (λ (p : Ptr). vs ≡ vstruct (of_list (ptr_val p ∷ [])) ∷ []) e (subst (λ (ps : List Val). vs ≡ vstruct (of_list (ps ++ [])) ∷ []) ep ev))))))
 
-  pub handle_in : K → (b o : ℕ) (a : heap.the_row.Denot) (x : inner.the_row.Denot)
-      → Step K 𝓛 (‵ (Hd.own_val (record { at = block_ptr b o; alloc = a; value = x }) (single (vptr b o) ∷ [])) ∷ Γ) G (‵ (box_owns (ghosts.dealloc_token a) inner.the_row (block_ptr b o) x) ∷ Γ) G
-  handle_in t b o a x = step (λ s. let v : Val = single (vptr b o) in
+  pub handle_in : K → (R : RattleType) (b o : ℕ) (a : heap.the_row.Denot) (x : R.Denot)
+      → Step K 𝓛 (‵ (Held R (block_ptr b o) a x (single (vptr b o) ∷ [])) ∷ Γ) G (‵ (box_owns (ghosts.dealloc_token a) R (block_ptr b o) x) ∷ Γ) G
+  handle_in t R b o a x = step (λ s. let v : Val = single (vptr b o) in
       nothing t $ feq_i t (List Val) (vptr b o ∷ []) (vptr b o ∷ []) refl $ fjoin t $ feq_i t (List Val) (v ∷ []) (v ∷ []) refl $ fjoin t $
-      fpack t (Valss (RawPtr ∷ [])) (within (shape handle.the_type) (block_ptr b o, tt) (v ∷ [])) (vptr b o ∷ [], tt) $ fjoin t $ s)
+      fpack t (Valss (RawPtr ∷ [])) (λ vss. fsep (feq (List Val) (v ∷ []) (vstruct (of_list (flat (RawPtr ∷ []) vss)) ∷ [])) (owns (RawPtr ∷ []) (block_ptr b o, tt) vss)) (vptr b o ∷ [], tt) $ fjoin t $ s)

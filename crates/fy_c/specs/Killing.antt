@@ -1,5 +1,5 @@
 -- orders by numbers, and what is told of a kill
-use Rattle.std.specs.Prelude.{◌≡◌, ◌≢◌, ◌<◌, ℕ, List, IsTrue, Result, Ok}
+use Rattle.std.specs.Prelude.{◌≡◌, ◌≢◌, ◌<◌, ◌≤◌, ℕ, List, IsTrue, Result, Ok}
 use Rattle.fy_locality.specs.Name.{is_name}
 use Rattle.fy_locality.specs.declared.key.Key.{Key}
 use Rattle.fy_kinds.specs.declared.kind.Kind.{Kind}
@@ -51,6 +51,21 @@ pub data NoOrder (given : Given) : Status → Type 0 where
   no_name : AreNumbers given → (IsTrue (is_name given.value) → ⊥) → NoOrder given Name
   above : (numbers : AreNumbers given) → IsTrue (is_name given.value) →
       rank numbers.kind < rank numbers.floor → NoOrder given Floor
+
+-- the numbers are those of two kinds, the second no harder than the first
+pub record AreKinds (given_kind given_floor : ℕ) (kind floor : Kind) : Type 0 where
+  pub kind_is : given_kind ≡ kind_number kind
+  pub floor_is : given_floor ≡ kind_number floor
+  pub ordered : rank floor ≤ rank kind
+
+-- why they aren't, the first that holds: a number is of no kind, or the floor is above the kind
+pub data NoKindAndFloor (given_kind given_floor : ℕ) : Status → Type 0 where
+  no_kind : ((kind : Kind) → given_kind ≢ kind_number kind) →
+      NoKindAndFloor given_kind given_floor Argument
+  no_floor : ((kind : Kind) → given_floor ≢ kind_number kind) →
+      NoKindAndFloor given_kind given_floor Argument
+  above : (kind floor : Kind) → given_kind ≡ kind_number kind → given_floor ≡ kind_number floor →
+      rank kind < rank floor → NoKindAndFloor given_kind given_floor Floor
 
 -- nothing to tell
 abbrev pub untold : Told

@@ -15,7 +15,7 @@ use Rattle.fy_acts.specs.declared.reply.Reply.{Reply}
 use Rattle.fy_acts.specs.declared.reply.Reply.TheVariants.{Ruled, Formed, Begun, Marked, Sent, Synced, Time, No}
 use Rattle.fy_cluster.specs.declared.fault.Fault.{Fault}
 use Rattle.fy_cluster.specs.Execution.{Execution}
-use Rattle.fy_c.specs.Acting.{HasRoom}
+use Rattle.fy_answers.specs.Answers.{HasRoom}
 use Rattle.fy_c.specs.Entering.{Applies, status_of}
 use Rattle.fy_c.specs.Numbers.{bit, named_by, refusal_number, rule_number}
 use Rattle.fy_c.specs.Sets.{IsTargetOf, NoTarget}

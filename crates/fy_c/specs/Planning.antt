@@ -15,11 +15,12 @@ use Rattle.fy_players.specs.declared.faults.Plan.{Plan}
 use Rattle.fy_players.specs.declared.faults.Plan.TheVariants.{Mixed, Attrition, Swizzle, Rolling}
 use Rattle.fy_players.specs.Orders.{AreOrders}
 use Rattle.fy_c.specs.Numbers.{key_number, kind_number}
+use Rattle.fy_c.specs.Killing.{AreKinds, NoKindAndFloor}
 use Rattle.fy_c.specs.declared.planning.TheConstants.{VALUE_BYTES}
 use Rattle.fy_c.specs.declared.planning.Asked.{Asked}
 use Rattle.fy_c.specs.declared.planning.FyOrder.{FyOrder}
 use Rattle.fy_c.specs.declared.status.Status.{Status}
-use Rattle.fy_c.specs.declared.status.Status.TheVariants.{Done, NoMemory, Short, Argument, Floor}
+use Rattle.fy_c.specs.declared.status.Status.TheVariants.{Done, NoMemory, Short, Argument}
 
 -- there are as many words as before, the first of a stream of the seed; or an allocation failed
 pub data Draws (seed stream : ℕ) (before after : List ℕ) : Status → Type 0 where
@@ -108,19 +109,6 @@ pub record IsSwizzleOf (processes : List Locality) (seed stream ticks : ℕ) (or
   pub drawn : IsSwizzle (plan_words processes seed stream) (everyone processes) plan
   pub orders_are : orders ≡ orders_of (swizzle_acts processes plan ticks)
 
--- the numbers are those of two kinds, the second no harder than the first
-pub record AreKinds (asked : Asked) (kind floor : Kind) : Type 0 where
-  pub kind_is : asked.kind ≡ kind_number kind
-  pub floor_is : asked.floor ≡ kind_number floor
-  pub ordered : rank floor ≤ rank kind
-
--- why they aren't, the first that holds: a number is of no kind, or the floor is above the kind
-pub data NoKindAndFloor (asked : Asked) : Status → Type 0 where
-  no_kind : ((it : Kind) → asked.kind ≢ kind_number it) → NoKindAndFloor asked Argument
-  no_floor : ((it : Kind) → asked.floor ≢ kind_number it) → NoKindAndFloor asked Argument
-  above : (kind floor : Kind) → asked.kind ≡ kind_number kind → asked.floor ≡ kind_number floor →
-      rank kind < rank floor → NoKindAndFloor asked Floor
-
 -- the machines of such a plan
 abbrev pub machines_of : List Locality → Asked → List (List ℕ)
 machines_of processes asked =
@@ -154,10 +142,10 @@ pub data Plans (IsPlan : List FyOrder → Type 0) (before after : List FyOrder) 
 -- an attrition is given, or an allocation failed; or none is asked for, and why is told
 pub data PlansAttrition (processes : List Locality) (asked : Asked) (before after : List FyOrder)
     (told : ℕ) (status : Status) : Type 0 where
-  asked_for : (kind floor : Kind) → (are : AreKinds asked kind floor) →
+  asked_for : (kind floor : Kind) → (are : AreKinds asked.kind asked.floor kind floor) →
       Plans (IsAttritionOf processes asked kind floor are.ordered) before after told status →
       PlansAttrition processes asked before after told status
-  not_asked : NoKindAndFloor asked status → told ≡ 0 → after ≡ before →
+  not_asked : NoKindAndFloor asked.kind asked.floor status → told ≡ 0 → after ≡ before →
       PlansAttrition processes asked before after told status
 
 -- ---- the plans of a simulation

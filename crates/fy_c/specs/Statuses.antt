@@ -2,8 +2,8 @@
 use Rattle.std.specs.Prelude.{◌≡◌, ℕ, Result, Ok, Err}
 use Rattle.fy_spelling.specs.declared.command.LineFault.{LineFault}
 use Rattle.fy_spelling.specs.declared.command.LineFault.TheVariants as line
-use Rattle.fy_spelling.specs.declared.command.CommandFault.{CommandFault}
-use Rattle.fy_spelling.specs.declared.command.CommandFault.TheVariants as command
+use Rattle.fy_answers.specs.declared.fault.AnswerFault.{AnswerFault}
+use Rattle.fy_answers.specs.declared.fault.AnswerFault.TheVariants as answer
 use Rattle.fy_cluster.specs.declared.fault.Fault.{Fault}
 use Rattle.fy_cluster.specs.declared.fault.Fault.TheVariants as cluster
 use Rattle.fy_config.specs.declared.fault.ConfigFault.{ConfigFault}
@@ -62,10 +62,12 @@ line_status line.TooLong = LineTooLong
 line_status line.Syntax = LineSyntax
 line_status line.Floor = Floor
 
--- the status for a line of which no command is read
-abbrev pub command_status : CommandFault → Status
-command_status (command.Line fault) = line_status fault
-command_status command.NoMemory = NoMemory
+-- the status for a line that has no answer
+abbrev pub answer_status : AnswerFault → Status
+answer_status (answer.Line fault) = line_status fault
+answer_status answer.JournalFull = JournalFull
+answer_status answer.NoMemory = NoMemory
+answer_status answer.Unwritten = Unwritten
 
 -- the status for an act that isn't entered
 abbrev pub entering_status : Fault → Status

@@ -1,73 +1,31 @@
 //! Lines in, and the lines of their entries out.
-ghost use Rattle.std.specs.Prelude.{◌≡◌, ◌≢◌, ◌<◌, length, vec_capacity, IsTrue, IsFalse, IfOk, IfErr, OnOk, OnErr};
+ghost use Rattle.std.specs.Prelude.{◌≡◌, ◌≢◌, length, IsTrue, IsFalse, IfOk, IfErr};
 ghost use Rattle.std.specs.Ptr.{null_ptr};
-ghost use Rattle.fy_audit.specs.AuditText.{entry_line};
-ghost use Rattle.fy_c.specs.Acting.{NoLine, IsAnswered, Tells, IsShort, Acts, HasLine, NotRead, Reads};
+ghost use Rattle.fy_answers.specs.Answers.{IsAnswered};
+ghost use Rattle.fy_c.specs.Acting.{IsUnanswered, Tells, IsShort, Acts, HasLine, NotRead, Reads};
 ghost use Rattle.fy_c.specs.Statuses.{Answers, ending};
 
 use crate::handle::FyGuard;
 use crate::status::{Status, number_of};
 use fy_acts::Journal;
+use fy_answers::answer;
 use fy_audit::push_entry_line;
-use fy_cluster::Cluster;
-use fy_spelling::{Entry, read_command};
-use std::alloc::{AllocError, Global};
+use std::alloc::Global;
 
 /// How many bytes the line of an entry may have beyond those of the line that asked for it: 128.
 pub const MOST_REPLY_BYTES: usize = 128;
 
-/// Puts an entry's line into a text, in place of what it has.
-fn put_line(text: &mut Vec<u8>, entry: &Entry) -> Result<(), AllocError>
-    ensures line { OnOk result (text.new.items ≡ entry_line entry.now) }
-    ensures full { OnErr result (vec_capacity text.old < length (entry_line entry.now)) }
-{
-    text.clear();
-    push_entry_line(text, entry)
-}
-
-/// Applies the command of a line, and puts the line of its entry into a text, in place of what it
-/// has.
+/// Answers a line by a text that has room for so many bytes.
 ///
 /// # Errors
 ///
-/// In order: `LineTooLong`, `LineSyntax` and `Floor` for a line that is no command, `JournalFull`;
-/// and `NoMemory`: nothing changed then. `Unwritten` where the act is made and an allocation for the
-/// line failed, which has more bytes than the text has room for.
-fn answer(
-    alloc: Global,
-    cluster: &mut Cluster,
-    line: &[u8],
-    text: &mut Vec<u8>,
-) -> Result<(), Status>
-    ensures answered { OnOk result
-        (IsAnswered cluster.old cluster.new line.now text.new.items) }
-    ensures err { IfErr result
-        (NoLine cluster.old cluster.new line.now (vec_capacity text.old)) }
-{
-    let command = read_command(alloc, line)?;
-    let (by, act) = command.into_parts();
-    cluster.apply(by, act)?;
-    let Some(entry) = cluster.journal().entries().last() else {
-        unreachable!();
-    };
-    // The act is made, so no `From` says what an allocation failure is here.
-    match put_line(text, entry) {
-        Ok(()) => Ok(()),
-        Err(_) => Err(Status::Unwritten),
-    }
-}
-
-/// Answers a line as `answer` does, by a text that has room for so many bytes.
-///
-/// # Errors
-///
-/// `NoMemory` where that room can't be had, and those of `answer`.
+/// `NoMemory` where that room can't be had, and those of [`answer`].
 fn act(alloc: Global, guard: &mut FyGuard, line: &[u8], room: usize) -> Result<Vec<u8>, Status>
     requires { guard.old.at ≢ null_ptr }
     ensures open { guard.new.at ≢ null_ptr }
     ensures answered { IfOk result (λ text.
         IsAnswered guard.old.value guard.new.value line.now text.items) }
-    ensures err { IfErr result (NoLine guard.old.value guard.new.value line.now room) }
+    ensures err { IfErr result (IsUnanswered guard.old.value guard.new.value line.now room) }
 {
     let mut text = Vec::with_capacity(alloc, room)?;
     answer(alloc, guard.cluster(), line, &mut text)?;
@@ -88,11 +46,13 @@ fn tell(text: &[u8], buffer: &mut [u8], told: &mut usize) -> bool
     true
 }
 
-/// Does what `fy_act` says.
+/// Answers a line into the front of a buffer, which has to have room for `MOST_REPLY_BYTES` more
+/// than the line has.
 ///
 /// # Errors
 ///
-/// Those of `fy_act`.
+/// In this order: `Short` where the buffer has less room, and `told` is the room it has to have;
+/// those of [`answer`]; `Unwritten` where the answer is longer than the buffer.
 fn act_into(
     alloc: Global,
     guard: &mut FyGuard,
@@ -159,15 +119,17 @@ fn line_of(alloc: Global, journal: &Journal, at: usize) -> Result<Vec<u8>, Statu
         return Err(Status::NoEntry);
     };
     let mut line = Vec::new(alloc);
-    put_line(&mut line, entry)?;
+    push_entry_line(&mut line, entry)?;
     Ok(line)
 }
 
-/// Writes the line of an entry of a journal, as `fy_audit` says.
+/// Writes the line of the entry at a place of a journal into the front of a buffer, and its length
+/// to `told`.
 ///
 /// # Errors
 ///
-/// Those of `fy_audit`.
+/// In order: `NoEntry`, `NoMemory`: then `told` stays. `Short` where the buffer is shorter than the
+/// line.
 fn audit_into(
     alloc: Global,
     journal: &Journal,

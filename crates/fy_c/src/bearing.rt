@@ -1,11 +1,14 @@
 //! How much of the cluster may still be lost, as a guard's journal left it.
-ghost use Rattle.std.specs.Prelude.{◌≡◌, ◌≢◌, ◌<◌, IfOk, length};
+ghost use Rattle.std.specs.Prelude.{◌≡◌, ◌≢◌, ◌<◌, IfOk, IfErr, length};
 ghost use Rattle.std.specs.Ptr.{null_ptr};
-ghost use Rattle.fy_c.specs.Bearing.{IsBookNow, IsBorneBy, IsBorneNow, Bears, is_exact, is_exact_at};
+ghost use Rattle.fy_c.specs.Bearing.{IsBookNow, IsBorneBy, Bears, is_exact, is_exact_at};
 ghost use Rattle.fy_c.specs.Statuses.{Answers};
+ghost use Rattle.fy_c.specs.declared.bearing.FyBorne.{FyBorne};
+ghost use Rattle.fy_c.specs.declared.status.Status.TheVariants.{Done};
 
 use crate::handle::FyGuard;
 use crate::numbers::bit;
+use crate::placing::put;
 use crate::sets::gone;
 use crate::status::Status;
 use fy_cluster::Cluster;
@@ -86,8 +89,13 @@ fn borne_by(
 }
 
 /// What may still be lost of a cluster.
-fn borne_in(alloc: Global, cluster: &Cluster) -> Result<FyBorne, AllocError>
-    ensures { IfOk result (IsBorneNow cluster.now) }
+///
+/// # Errors
+///
+/// `NoMemory`.
+fn borne_in(alloc: Global, cluster: &Cluster) -> Result<FyBorne, Status>
+    ensures borne { IfOk result (λ borne. (old : FyBorne) → Bears cluster.now old borne Done) }
+    ensures memory { IfErr result (λ status. (old : FyBorne) → Bears cluster.now old old status) }
 {
     let dead = book_in(alloc, cluster)?;
     let config = cluster.config();
@@ -117,11 +125,5 @@ pub extern "C" fn fy_bears(alloc: Global, guard: &mut FyGuard, borne: &mut FyBor
     ensures place { guard.new.at ≡ guard.old.at }
     ensures borne { Answers result (Bears guard.old.value borne.old borne.new) }
 {
-    match borne_in(alloc, guard.cluster()) {
-        Ok(told) => {
-            *borne = told;
-            Status::Done.number()
-        }
-        Err(_) => Status::NoMemory.number(),
-    }
+    put(borne_in(alloc, guard.cluster()), borne)
 }

@@ -1,41 +1,35 @@
 //! Checks of audits: begun, given lines, asked and ended.
-ghost use Rattle.std.specs.Prelude.{◌≡◌, ◌≢◌, IfOk, IfErr, None, Ok};
+ghost use Rattle.std.specs.Prelude.{◌≡◌, ◌≢◌, IfOk, IfErr};
 ghost use Rattle.std.specs.Ptr.{null_ptr};
-ghost use Rattle.fy_config.specs.Config.{ConfigOf};
 ghost use Rattle.fy_c.specs.Checking.{ReadsLine, BeginsCheck, Finding};
-ghost use Rattle.fy_c.specs.Opening.{NotOpened};
-ghost use Rattle.fy_c.specs.Statuses.{Answers, ending};
+ghost use Rattle.fy_c.specs.Statuses.{Answers};
+ghost use Rattle.fy_c.specs.declared.check_handle.FyCheck.{FyCheck};
+ghost use Rattle.fy_c.specs.declared.status.Status.TheVariants.{Done};
 
 use crate::check_handle::{FyCheck, closed_up, opened_up};
 use crate::checking::{Check, bad_of, count_of, read_line};
+use crate::placing::put;
 use crate::status::{Status, number_of};
 use fy_config::read_config;
 use std::alloc::Global;
 
 /// A check for the audits of a cluster file, of which nothing was read.
-fn begun(alloc: Global, config: &[u8]) -> Result<Box<Check>, Status>
-    ensures config { IfOk result (λ check. ConfigOf config.now (Ok check.value.config)) }
-    ensures none { IfOk result (λ check. check.value.begun ≡ None) }
-    ensures refused { IfErr result (NotOpened config.now) }
+///
+/// # Errors
+///
+/// `NoMemory`, and the statuses for a cluster file that is refused.
+fn begun(alloc: Global, config: &[u8]) -> Result<FyCheck, Status>
+    ensures begun { IfOk result (λ check. (old : FyCheck) →
+        BeginsCheck config.now old check Done) }
+    ensures refused { IfErr result (λ status. (old : FyCheck) →
+        BeginsCheck config.now old old status) }
 {
     let config = read_config(alloc, config)?;
     let check = Check {
         config,
         begun: None,
     };
-    Ok(Box::new(alloc, check)?)
-}
-
-/// Does what `fy_begin_check` says.
-///
-/// # Errors
-///
-/// Those of `fy_begin_check`.
-fn begin_check(alloc: Global, config: &[u8], check: &mut FyCheck) -> Result<(), Status>
-    ensures { BeginsCheck config.now check.old check.new (ending result) }
-{
-    *check = closed_up(begun(alloc, config)?);
-    Ok(())
+    Ok(closed_up(Box::new(alloc, check)?))
 }
 
 /// Begins to check an audit of a cluster that began with this cluster file. What the check was
@@ -48,7 +42,7 @@ fn begin_check(alloc: Global, config: &[u8], check: &mut FyCheck) -> Result<(), 
 pub extern "C" fn fy_begin_check(alloc: Global, config: &[u8], check: &mut FyCheck) -> u32
     ensures { Answers result (BeginsCheck config.now check.old check.new) }
 {
-    number_of(begin_check(alloc, config, check))
+    put(begun(alloc, config), check)
 }
 
 /// Frees all that an open check holds.

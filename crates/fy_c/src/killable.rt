@@ -5,6 +5,7 @@ ghost use Rattle.fy_c.specs.Killable.{IsHardestOn, AreHardest, Killable};
 ghost use Rattle.fy_c.specs.Statuses.{Answers};
 
 use crate::handle::FyGuard;
+use crate::killing::outcome_of;
 use crate::killing_process::judge_process;
 use crate::numbers::kind_number;
 use crate::status::Status;
@@ -18,14 +19,15 @@ fn hardest_on(cluster: &Cluster, actor: u32, process: u32) -> u8
 {
     let kind = kind_number(Kind::KillInstantly);
     let floor = kind_number(Kind::RebootProcess);
-    let (_status, told) = judge_process(cluster, actor, process, kind, floor);
+    let (_status, told) = outcome_of(judge_process(cluster, actor, process, kind, floor));
     told.struck as u8
 }
 
 /// Writes the kind of each process to the front of a buffer.
 fn write_hardest(cluster: &Cluster, actor: u32, kinds: &mut [u8])
     requires { length cluster.now.setup.processes ≤ length kinds.old }
-    ensures { AreHardest cluster.now actor (length cluster.now.setup.processes) kinds.old kinds.new }
+    ensures { AreHardest cluster.now actor (length cluster.now.setup.processes)
+        kinds.old kinds.new }
 {
     for p in 0..cluster.config().map().len() {
         kinds[p as usize] = hardest_on(cluster, actor, p);

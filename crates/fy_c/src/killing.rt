@@ -1,20 +1,21 @@
 //! Kills, ordered and answered by numbers.
-ghost use Rattle.std.specs.Prelude.{◌≡◌, ◌≢◌, Ok, IfOk, IfErr, IfSome};
+ghost use Rattle.std.specs.Prelude.{◌≡◌, ◌≢◌, Ok, Err, IfOk, IfErr, IfSome};
 ghost use Rattle.std.specs.Ptr.{null_ptr};
 ghost use Rattle.fy_decide.specs.Verdicts.{NamesProcess};
 ghost use Rattle.fy_acts.specs.declared.act.Act.TheVariants.{Kill};
+ghost use Rattle.fy_cluster.specs.Execution.{replied};
 ghost use Rattle.fy_c.specs.Entering.{Applies, status_of};
-ghost use Rattle.fy_c.specs.Killing.{IsOrderOf, NoOrder, IsKilled, Kills, IsJudged, Judges, told_of, untold};
-ghost use Rattle.fy_c.specs.Statuses.{Answers};
+ghost use Rattle.fy_c.specs.Killing.{AreKinds, NoKindAndFloor, IsOrderOf, NoOrder, IsKilled, Kills, Judges, told_of, untold};
+ghost use Rattle.fy_c.specs.Statuses.{Answers, number};
 
-use crate::entering::{apply, status_of};
+use crate::entering::apply;
 use crate::handle::FyGuard;
 use crate::killing_process::apply_kill;
 use crate::numbers::{key_of, kind_of, named_by, rule_number, struck_number};
 use crate::status::Status;
 use fy_acts::{Act, Reply};
 use fy_cluster::{Cluster, Fault};
-use fy_kinds::{KillOrder, Target};
+use fy_kinds::{KillOrder, Kind, Target};
 use fy_locality::{Key, Map, Name, ProcId};
 
 /// What C is told of a verdict.
@@ -35,13 +36,14 @@ pub(crate) const UNTOLD: Told = Told {
     named: 0,
 };
 
-/// The status of a reply to a kill, and what C is told of it.
-pub(crate) fn reply_outcome(reply: Reply) -> (Status, Told)
-    ensures status { result.0 ≡ status_of (Ok reply) }
-    ensures told { result.1 ≡ told_of (Ok reply) }
+/// The status of an answer to a kill, and what C is told of it.
+pub(crate) fn outcome_of(answer: Result<Reply, Status>) -> (Status, Told)
+    ensures status { IfOk answer (λ reply. result.0 ≡ status_of (Ok reply)) }
+    ensures told { IfOk answer (λ reply. result.1 ≡ told_of (Ok reply)) }
+    ensures none { IfErr answer (λ status. result ≡ (status, untold)) }
 {
-    match reply {
-        Reply::Verdict(verdict) => {
+    match answer {
+        Ok(Reply::Verdict(verdict)) => {
             let told = Told {
                 struck: struck_number(verdict.struck),
                 rule: rule_number(verdict.rule),
@@ -49,20 +51,56 @@ pub(crate) fn reply_outcome(reply: Reply) -> (Status, Told)
             };
             (Status::Done, told)
         }
-        Reply::No(_) => (Status::Refused, UNTOLD),
-        _ => (Status::Done, UNTOLD),
+        Ok(Reply::No(_)) => (Status::Refused, UNTOLD),
+        Ok(_) => (Status::Done, UNTOLD),
+        Err(status) => (status, UNTOLD),
     }
 }
 
-/// The status of an answer to a kill, and what C is told of it.
-pub(crate) fn outcome_of(answer: Result<Reply, Fault>) -> (Status, Told)
-    ensures status { result.0 ≡ status_of answer }
-    ensures told { result.1 ≡ told_of answer }
+/// Tells C of an answer to a kill: the number of its status is answered.
+// One call less for each kill.
+#[inline(always)]
+pub(crate) fn tell(
+    answer: Result<Reply, Status>,
+    struck: &mut u32,
+    rule: &mut u32,
+    named: &mut u64,
+) -> u32
+    ensures status { IfOk answer (λ reply. result ≡ number (status_of (Ok reply))) }
+    ensures told { IfOk answer (λ reply. told_of (Ok reply)
+        ≡ record { struck = struck.new; rule = rule.new; named = named.new }) }
+    ensures none { IfErr answer (λ status. (result ≡ number status)
+        × (untold ≡ record { struck = struck.new; rule = rule.new; named = named.new })) }
 {
-    match answer {
-        Ok(reply) => reply_outcome(reply),
-        Err(_) => (status_of(answer), UNTOLD),
+    let (status, told) = outcome_of(answer);
+    *struck = told.struck;
+    *rule = told.rule;
+    *named = told.named;
+    status.number()
+}
+
+/// The kind and the floor of an order, by their numbers.
+///
+/// # Errors
+///
+/// In order: `Argument` where a number is that of no kind; `Floor` where the floor is above the
+/// kind.
+// One call less for each kill.
+#[inline(always)]
+pub(crate) fn kinds_of(kind: u32, floor: u32) -> Result<(Kind, Kind), Status>
+    ensures kinds { IfOk result (λ kinds. AreKinds kind floor kinds.0 kinds.1) }
+    ensures none { IfErr result (NoKindAndFloor kind floor) }
+{
+    let Some(kind) = kind_of(kind) else {
+        return Err(Status::Argument);
+    };
+    let Some(floor) = kind_of(floor) else {
+        return Err(Status::Argument);
+    };
+    if floor.is_above(kind) {
+        return Err(Status::Floor);
     }
+    Ok((kind, floor))
 }
 
 /// An order by the numbers of its key and its kinds.
@@ -121,21 +159,26 @@ fn apply_order(guard: &mut FyGuard, by: u32, order: &KillOrder) -> Result<Reply,
 }
 
 /// Orders a kill, and applies it where an order is given.
-fn carry_out(guard: &mut FyGuard, actor: u32, order: Result<KillOrder, Status>) -> (Status, Told)
+///
+/// # Errors
+///
+/// In order: that of the order, where none is given; `JournalFull`, `NoMemory`.
+fn carry_out(
+    guard: &mut FyGuard,
+    actor: u32,
+    order: Result<KillOrder, Status>,
+) -> Result<Reply, Status>
     requires { guard.old.at ≢ null_ptr }
     ensures open { guard.new.at ≢ null_ptr }
-    ensures given { IfOk order (λ order.
-        IsKilled guard.old.value guard.new.value actor order result.0 result.1) }
+    ensures replied { IfOk order (λ order. IfOk result (λ reply.
+        IsKilled guard.old.value guard.new.value actor order
+        (status_of (Ok reply)) (told_of (Ok reply)))) }
+    ensures failed { IfOk order (λ order. IfErr result (λ status.
+        IsKilled guard.old.value guard.new.value actor order status untold)) }
     ensures not_given { IfErr order (λ status. (guard.new.value ≡ guard.old.value)
-        × (result ≡ (status, untold))) }
+        × (result ≡ Err status)) }
 {
-    match order {
-        Ok(order) => {
-            let answer = apply_order(guard, actor, &order);
-            outcome_of(answer)
-        }
-        Err(status) => (status, UNTOLD),
-    }
+    Ok(apply_order(guard, actor, &order?)?)
 }
 
 /// Orders a kill by an actor: of the processes whose key has a value, by a kind or where that is
@@ -169,26 +212,25 @@ pub extern "C" fn fy_kill(
         (record { struck = struck.new; rule = rule.new; named = named.new })) }
 {
     let order = order_of(key, value, kind, floor, tear);
-    let (status, told) = carry_out(guard, actor, order);
-    *struck = told.struck;
-    *rule = told.rule;
-    *named = told.named;
-    status.number()
+    let answer = carry_out(guard, actor, order);
+    tell(answer, struck, rule, named)
 }
 
 /// What a kill by an actor would get now, where an order is given.
-fn expected_outcome(
+///
+/// # Errors
+///
+/// That of the order, where none is given.
+fn expected_reply(
     cluster: &Cluster,
     actor: u32,
     order: Result<KillOrder, Status>,
-) -> (Status, Told)
-    ensures given { IfOk order (λ order. IsJudged cluster.now actor order result.0 result.1) }
-    ensures not_given { IfErr order (λ status. result ≡ (status, untold)) }
+) -> Result<Reply, Status>
+    ensures given { IfOk order (λ order.
+        result ≡ Ok (replied cluster.now actor (Kill order))) }
+    ensures not_given { IfErr order (λ status. result ≡ Err status) }
 {
-    match order {
-        Ok(order) => reply_outcome(cluster.judge(actor, &order)),
-        Err(status) => (status, UNTOLD),
-    }
+    Ok(cluster.judge(actor, &order?))
 }
 
 /// What `fy_kill` would answer now to the same order, if the journal had room. It enters nothing,
@@ -219,9 +261,6 @@ pub extern "C" fn fy_judge(
         (record { struck = struck.new; rule = rule.new; named = named.new })) }
 {
     let order = order_of(key, value, kind, floor, 0);
-    let (status, told) = expected_outcome(guard.cluster(), actor, order);
-    *struck = told.struck;
-    *rule = told.rule;
-    *named = told.named;
-    status.number()
+    let answer = expected_reply(guard.cluster(), actor, order);
+    tell(answer, struck, rule, named)
 }

@@ -1,16 +1,16 @@
 //! Kills of one process, ordered by its number and answered by numbers.
-ghost use Rattle.std.specs.Prelude.{◌≡◌, ◌≢◌, ◌≤◌, ℕ, IfOk, IfErr};
+ghost use Rattle.std.specs.Prelude.{◌≡◌, ◌≢◌, ◌≤◌, ℕ, Ok, IfOk, IfErr};
 ghost use Rattle.std.specs.Ptr.{null_ptr};
 ghost use Rattle.fy_kinds.specs.Kinds.{rank};
 ghost use Rattle.fy_decide.specs.Verdicts.{NamesProcess};
 ghost use Rattle.fy_acts.specs.declared.act.Act.TheVariants.{Kill};
-ghost use Rattle.fy_c.specs.Entering.{Applies};
+ghost use Rattle.fy_c.specs.Entering.{Applies, status_of};
+ghost use Rattle.fy_c.specs.Killing.{told_of, untold};
 ghost use Rattle.fy_c.specs.KillingProcess.{IsOrderOn, AreKindsOn, NoOrderOn, KillsProcess, JudgesProcess};
 ghost use Rattle.fy_c.specs.Statuses.{Answers};
 
 use crate::handle::FyGuard;
-use crate::killing::{Told, UNTOLD, outcome_of, reply_outcome};
-use crate::numbers::kind_of;
+use crate::killing::{kinds_of, tell};
 use crate::status::Status;
 use fy_acts::Reply;
 use fy_cluster::{Cluster, Fault};
@@ -30,19 +30,10 @@ fn kinds_on(map: &Map, process: u32, kind: u32, floor: u32) -> Result<(Kind, Kin
     ensures none { IfErr result (λ status. (tear : ℕ) → NoOrderOn map.now
         (record { process = process; kind = kind; floor = floor; tear = tear }) status) }
 {
-    let Some(kind) = kind_of(kind) else {
-        return Err(Status::Argument);
-    };
-    let Some(floor) = kind_of(floor) else {
-        return Err(Status::Argument);
-    };
     if process >= map.len() {
         return Err(Status::Argument);
     }
-    if floor.is_above(kind) {
-        return Err(Status::Floor);
-    }
-    Ok((kind, floor))
+    kinds_of(kind, floor)
 }
 
 /// An order on one process, by its number and those of two kinds. It names the process by its name.
@@ -89,6 +80,10 @@ pub(crate) fn apply_kill(
 }
 
 /// Orders a kill of one process, and applies it where an order is given.
+///
+/// # Errors
+///
+/// As of `fy_kill_process`, but for `Refused`.
 fn kill_process(
     guard: &mut FyGuard,
     actor: u32,
@@ -96,20 +91,17 @@ fn kill_process(
     kind: u32,
     floor: u32,
     tear: u64,
-) -> (Status, Told)
+) -> Result<Reply, Status>
     requires { guard.old.at ≢ null_ptr }
     ensures open { guard.new.at ≢ null_ptr }
-    ensures killed { KillsProcess guard.old.value guard.new.value actor
+    ensures replied { IfOk result (λ reply. KillsProcess guard.old.value guard.new.value actor
         (record { process = process; kind = kind; floor = floor; tear = tear })
-        result.1 result.0 }
+        (told_of (Ok reply)) (status_of (Ok reply))) }
+    ensures failed { IfErr result (KillsProcess guard.old.value guard.new.value actor
+        (record { process = process; kind = kind; floor = floor; tear = tear }) untold) }
 {
-    let order = match order_on(guard.cluster().config().map(), process, kind, floor, tear) {
-        Ok(order) => order,
-        // A status comes with what is told, so no `?` hands it on.
-        Err(status) => return (status, UNTOLD),
-    };
-    let answer = apply_kill(guard, actor, ProcId(process), &order);
-    outcome_of(answer)
+    let order = order_on(guard.cluster().config().map(), process, kind, floor, tear)?;
+    Ok(apply_kill(guard, actor, ProcId(process), &order)?)
 }
 
 /// Does what `fy_kill` does with an order that names this process alone by its name, and makes the
@@ -138,34 +130,34 @@ pub extern "C" fn fy_kill_process(
         (record { process = process; kind = kind; floor = floor; tear = tear })
         (record { struck = struck.new; rule = rule.new; named = named.new })) }
 {
-    let (status, told) = kill_process(guard, actor, process, kind, floor, tear);
-    *struck = told.struck;
-    *rule = told.rule;
-    *named = told.named;
-    status.number()
+    let answer = kill_process(guard, actor, process, kind, floor, tear);
+    tell(answer, struck, rule, named)
 }
 
 /// What a kill of one process by an actor would get now.
+///
+/// # Errors
+///
+/// As of `fy_judge_process`, but for `Refused`.
 pub(crate) fn judge_process(
     cluster: &Cluster,
     actor: u32,
     process: u32,
     kind: u32,
     floor: u32,
-) -> (Status, Told)
-    ensures { JudgesProcess cluster.now actor
-        (record { process = process; kind = kind; floor = floor; tear = 0 }) result.1 result.0 }
+) -> Result<Reply, Status>
+    ensures replied { IfOk result (λ reply. JudgesProcess cluster.now actor
+        (record { process = process; kind = kind; floor = floor; tear = 0 })
+        (told_of (Ok reply)) (status_of (Ok reply))) }
+    ensures none { IfErr result (JudgesProcess cluster.now actor
+        (record { process = process; kind = kind; floor = floor; tear = 0 }) untold) }
 {
-    let (kind, floor) = match kinds_on(cluster.config().map(), process, kind, floor) {
-        Ok(kinds) => kinds,
-        // As in `kill_process`.
-        Err(status) => return (status, UNTOLD),
-    };
+    let (kind, floor) = kinds_on(cluster.config().map(), process, kind, floor)?;
     let Some(reply) = cluster.judge_process(actor, ProcId(process), kind, floor) else {
         // The number was found to be that of a process.
         unreachable!();
     };
-    reply_outcome(reply)
+    Ok(reply)
 }
 
 /// What `fy_kill_process` would answer now to the same order, if the journal had room. It enters
@@ -193,9 +185,6 @@ pub extern "C" fn fy_judge_process(
         (record { process = process; kind = kind; floor = floor; tear = 0 })
         (record { struck = struck.new; rule = rule.new; named = named.new })) }
 {
-    let (status, told) = judge_process(guard.cluster(), actor, process, kind, floor);
-    *struck = told.struck;
-    *rule = told.rule;
-    *named = told.named;
-    status.number()
+    let answer = judge_process(guard.cluster(), actor, process, kind, floor);
+    tell(answer, struck, rule, named)
 }

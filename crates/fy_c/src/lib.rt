@@ -21,6 +21,7 @@ mod loose;
 mod making;
 mod numbers;
 mod opening;
+mod placing;
 mod planning;
 mod resuming;
 mod rights;

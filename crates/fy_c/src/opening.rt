@@ -1,19 +1,24 @@
 //! Guards opened and closed.
 ghost use Rattle.std.specs.Prelude.{◌≡◌, ◌≢◌, IfOk, IfErr, OnOk};
 ghost use Rattle.std.specs.Ptr.{null_ptr};
-ghost use Rattle.fy_cluster.specs.Execution.{opened};
 ghost use Rattle.fy_c.specs.Opening.{Begins, Copies, NotOpened, Opens, Resets};
-ghost use Rattle.fy_c.specs.Statuses.{Answers, ending};
-ghost use Rattle.fy_c.specs.declared.status.Status.TheVariants.{NoMemory};
+ghost use Rattle.fy_c.specs.Statuses.{Answers};
+ghost use Rattle.fy_c.specs.declared.handle.FyGuard.{FyGuard};
+ghost use Rattle.fy_c.specs.declared.status.Status.TheVariants.{Done, NoMemory};
 
 use crate::handle::{FyGuard, closed_up, opened_up};
-use crate::status::{Status, number_of};
+use crate::placing::put;
+use crate::status::Status;
 use fy_cluster::Cluster;
 use fy_config::read_config;
-use std::alloc::{AllocError, Global};
+use std::alloc::Global;
 
 /// The cluster that a cluster file begins. Memory was asked for then, so it can also be refused to
 /// what follows.
+///
+/// # Errors
+///
+/// `NoMemory`, and the statuses for a cluster file that is refused.
 pub(crate) fn begun(alloc: Global, config: &[u8]) -> Result<Cluster, Status>
     ensures begun { IfOk result (Begins config.now) }
     ensures refused { IfErr result (NotOpened config.now) }
@@ -23,17 +28,17 @@ pub(crate) fn begun(alloc: Global, config: &[u8]) -> Result<Cluster, Status>
     Ok(Cluster::make(alloc, config)?)
 }
 
-/// Does what `fy_open` says.
+/// A guard of the cluster that a cluster file begins.
 ///
 /// # Errors
 ///
-/// Those of `fy_open`.
-fn open(alloc: Global, config: &[u8], guard: &mut FyGuard) -> Result<(), Status>
-    ensures { Opens config.now guard.old guard.new (ending result) }
+/// `NoMemory`, and the statuses for a cluster file that is refused.
+fn open(alloc: Global, config: &[u8]) -> Result<FyGuard, Status>
+    ensures opened { IfOk result (λ guard. (old : FyGuard) → Opens config.now old guard Done) }
+    ensures refused { IfErr result (λ status. (old : FyGuard) → Opens config.now old old status) }
 {
     let cluster = begun(alloc, config)?;
-    *guard = closed_up(Box::new(alloc, cluster)?);
-    Ok(())
+    Ok(closed_up(Box::new(alloc, cluster)?))
 }
 
 /// Opens a guard of a cluster in which nothing happened yet. What the guard was before is
@@ -46,7 +51,7 @@ fn open(alloc: Global, config: &[u8], guard: &mut FyGuard) -> Result<(), Status>
 pub extern "C" fn fy_open(alloc: Global, config: &[u8], guard: &mut FyGuard) -> u32
     ensures { Answers result (Opens config.now guard.old guard.new) }
 {
-    number_of(open(alloc, config, guard))
+    put(open(alloc, config), guard)
 }
 
 /// Frees all that an open guard holds.
@@ -58,11 +63,16 @@ pub extern "C" fn fy_close(alloc: Global, guard: FyGuard)
 }
 
 /// A cluster in which nothing happened yet, with what another began with.
-fn fresh(alloc: Global, cluster: &Cluster) -> Result<Cluster, AllocError>
-    ensures { IfOk result (λ fresh. fresh ≡ opened cluster.now.setup) }
+///
+/// # Errors
+///
+/// `NoMemory`.
+fn fresh(alloc: Global, cluster: &Cluster) -> Result<Cluster, Status>
+    ensures fresh { IfOk result (λ fresh. Resets cluster.now fresh Done) }
+    ensures memory { IfErr result (Resets cluster.now cluster.now) }
 {
     let config = cluster.config().try_copy(alloc)?;
-    Cluster::make(alloc, config)
+    Ok(Cluster::make(alloc, config)?)
 }
 
 /// Puts an open guard back to where nothing happened yet, without its cluster file being read
@@ -78,21 +88,20 @@ pub extern "C" fn fy_reset(alloc: Global, guard: &mut FyGuard) -> u32
     ensures reset { Answers result (Resets guard.old.value guard.new.value) }
 {
     let cluster = guard.cluster();
-    match fresh(alloc, cluster) {
-        Ok(begun) => {
-            *cluster = begun;
-            Status::Done.number()
-        }
-        Err(_) => Status::NoMemory.number(),
-    }
+    put(fresh(alloc, cluster), cluster)
 }
 
-/// A cluster with the journal of another.
-fn copied(alloc: Global, cluster: &Cluster) -> Result<Box<Cluster>, AllocError>
-    ensures { IfOk result (λ copy. copy.value ≡ cluster.now) }
+/// A guard of a cluster with the journal of another.
+///
+/// # Errors
+///
+/// `NoMemory`.
+fn copied(alloc: Global, cluster: &Cluster) -> Result<FyGuard, Status>
+    ensures copied { IfOk result (λ copy. (old : FyGuard) → Copies cluster.now old copy Done) }
+    ensures memory { IfErr result (λ status. (old : FyGuard) → Copies cluster.now old old status) }
 {
     let copy = cluster.try_copy(alloc)?;
-    Ok(Box::new(alloc, copy)?)
+    Ok(closed_up(Box::new(alloc, copy)?))
 }
 
 /// Opens a second guard with the journal of an open one, to look ahead. The state is copied, and no
@@ -108,11 +117,5 @@ pub extern "C" fn fy_try_copy(alloc: Global, guard: &mut FyGuard, other: &mut Fy
     ensures place { guard.new.at ≡ guard.old.at }
     ensures copied { Answers result (Copies guard.old.value other.old other.new) }
 {
-    match copied(alloc, guard.cluster()) {
-        Ok(copy) => {
-            *other = closed_up(copy);
-            Status::Done.number()
-        }
-        Err(_) => Status::NoMemory.number(),
-    }
+    put(copied(alloc, guard.cluster()), other)
 }

@@ -1,16 +1,20 @@
 //! Words of a seed, and the orders of plans that are drawn from them.
-ghost use Rattle.std.specs.Prelude.{◌≡◌, ◌≢◌, ◌<◌, ◌≤◌, length, All, IfOk, IfErr, IfSome, IfNone, Some};
+ghost use Rattle.std.specs.Prelude.{◌≡◌, ◌≢◌, ◌<◌, ◌≤◌, List, length, All, IfOk, IfErr, IfSome, IfNone, Some};
 ghost use Rattle.fy_players.specs.declared.faults.Plan.{Plan};
 ghost use Rattle.fy_acts.specs.declared.act.Act.TheVariants as act;
 ghost use Rattle.std.specs.Ptr.{null_ptr};
+ghost use Rattle.fy_kinds.specs.declared.kind.Kind.{Kind};
 ghost use Rattle.fy_kinds.specs.Kinds.{rank};
 ghost use Rattle.fy_actors.specs.Schedules.{swizzle_acts, attrition_acts};
-ghost use Rattle.fy_c.specs.Numbers.{key_number};
-ghost use Rattle.fy_c.specs.Planning.{Draws, with_zeros, order_of, orders_of, clog_of, unclog_of, kill_of, no_order, IsSwizzleOf, AreKinds, NoKindAndFloor, machines_of, IsAttritionOf, Gives, Plans, PlansAttrition, plan_number, AreOrdersOf, FillsWithOrders};
+ghost use Rattle.fy_c.specs.Killing.{AreKinds};
+ghost use Rattle.fy_c.specs.Numbers.{key_number, kind_number};
+ghost use Rattle.fy_c.specs.Planning.{Draws, with_zeros, order_of, orders_of, clog_of, unclog_of, kill_of, no_order, IsSwizzleOf, machines_of, IsAttritionOf, Gives, Plans, PlansAttrition, plan_number, AreOrdersOf, FillsWithOrders};
 ghost use Rattle.fy_c.specs.Statuses.{Answers, ending};
+ghost use Rattle.fy_c.specs.declared.planning.FyOrder.{FyOrder};
 
 use crate::handle::FyGuard;
-use crate::numbers::{kind_number, kind_of};
+use crate::killing::kinds_of;
+use crate::numbers::kind_number;
 use crate::status::{Status, number_of};
 use fy_actors::{AttritionPlan, SwizzlePlan, draw_attrition, draw_swizzle, process_target, words};
 use fy_acts::Act;
@@ -62,11 +66,13 @@ pub struct FyOrder {
 /// The number of what is no order.
 const NO_ORDER: u32 = 0;
 
-/// The number of a kill, a clog and the end of a clog.
+/// The number of a kill.
 const ORDER_KILL: u32 = 1;
 
+/// The number of a clog.
 const ORDER_CLOG: u32 = 2;
 
+/// The number of the end of a clog.
 const ORDER_UNCLOG: u32 = 3;
 
 /// The number of a key.
@@ -131,19 +137,35 @@ fn unclog(map: &Map, p: ProcId) -> FyOrder
     order_of_clog(ORDER_UNCLOG, process_target(map, p), 0)
 }
 
-/// The order to kill a machine.
-fn kill(machine: &Name, kind: Kind, floor: Kind, tear: u64) -> FyOrder
-    ensures { result ≡ kill_of kind floor tear machine.now }
+/// The order of a kill by this kind, down to this floor.
+fn order_to_kill(target: Target, kind: Kind, floor: Kind, tear: u64) -> FyOrder
+    ensures { result ≡ record {
+      ticks = 0;
+      tear = tear;
+      act = 1;
+      key = key_number target.key;
+      kind = kind_number kind;
+      floor = kind_number floor;
+      value = with_zeros target.value;
+    } }
 {
     FyOrder {
         ticks: 0,
         tear,
         act: ORDER_KILL,
-        key: key_number(Key::Machine),
+        key: key_number(target.key),
         kind: kind_number(kind),
         floor: kind_number(floor),
-        value: with_zeros(machine),
+        value: with_zeros(&target.value),
     }
+}
+
+/// The order to kill a machine.
+fn kill(machine: &Name, kind: Kind, floor: Kind, tear: u64) -> FyOrder
+    ensures { result ≡ kill_of kind floor tear machine.now }
+{
+    let (key, value) = (Key::Machine, *machine);
+    order_to_kill(Target { key, value }, kind, floor, tear)
 }
 
 /// The orders to clog each process of a plan and then to end the clog of each.
@@ -169,55 +191,48 @@ fn swizzle_orders(
 }
 
 /// The orders of a swizzle that is drawn.
+///
+/// # Errors
+///
+/// `NoMemory`.
 fn swizzle(
     alloc: Global,
     map: &Map,
     seed: u64,
     stream: u64,
     ticks: u64,
-) -> Result<Vec<FyOrder>, AllocError>
-    ensures { IfOk result (λ orders. IsSwizzleOf map.now seed stream ticks orders.items) }
+) -> Result<Vec<FyOrder>, Status>
+    ensures drawn { IfOk result (λ orders. IsSwizzleOf map.now seed stream ticks orders.items) }
+    ensures none { IfErr result (λ status. (orders : List FyOrder) →
+        Plans (IsSwizzleOf map.now seed stream ticks) orders orders 0 status) }
 {
     let plan = draw_swizzle(alloc, map, seed, stream)?;
-    swizzle_orders(alloc, map, &plan, ticks)
+    Ok(swizzle_orders(alloc, map, &plan, ticks)?)
 }
 
-/// Writes orders to the front of a buffer where they fit; tells how many there are.
+/// Writes the orders of a plan to the front of a buffer where they fit; tells how many there are.
 ///
 /// # Errors
 ///
-/// `Short` where the buffer has room for fewer.
-fn give(orders: &[FyOrder], buffer: &mut [FyOrder], told: &mut usize) -> Result<(), Status>
-    ensures { Gives orders.now buffer.old buffer.new told.new (ending result) }
+/// Why there is no plan, and 0 is told; `Short` where the buffer has room for fewer.
+fn give(
+    plan: Result<Vec<FyOrder>, Status>,
+    buffer: &mut [FyOrder],
+    told: &mut usize,
+) -> Result<(), Status>
+    ensures given { IfOk plan (λ orders.
+        Gives orders.items buffer.old buffer.new told.new (ending result)) }
+    ensures none { IfErr plan (λ status. (ending result ≡ status)
+        × (told.new ≡ 0) × (buffer.new ≡ buffer.old)) }
 {
+    *told = 0;
+    let orders = plan?;
     *told = orders.len();
     if buffer.len() < orders.len() {
         return Err(Status::Short);
     }
-    buffer[..orders.len()].copy_from_slice(orders);
+    buffer[..orders.len()].copy_from_slice(&orders);
     Ok(())
-}
-
-/// Draws a swizzle, and writes its orders as `fy_swizzle_plan` says.
-///
-/// # Errors
-///
-/// Those of `fy_swizzle_plan`.
-fn plan_swizzle(
-    alloc: Global,
-    map: &Map,
-    seed: u64,
-    stream: u64,
-    ticks: u64,
-    orders: &mut [FyOrder],
-    told: &mut usize,
-) -> Result<(), Status>
-    ensures { Plans (IsSwizzleOf map.now seed stream ticks) orders.old orders.new told.new
-        (ending result) }
-{
-    *told = 0;
-    let plan = swizzle(alloc, map, seed, stream, ticks)?;
-    give(&plan, orders, told)
 }
 
 /// Writes the orders of a swizzle to the front of a buffer: those of the first, third, .. fault
@@ -245,8 +260,8 @@ pub extern "C" fn fy_swizzle_plan(
         (IsSwizzleOf guard.old.value.setup.processes seed stream ticks)
         orders.old orders.new told.new) }
 {
-    let map = guard.cluster().config().map();
-    number_of(plan_swizzle(alloc, map, seed, stream, ticks, orders, told))
+    let plan = swizzle(alloc, guard.cluster().config().map(), seed, stream, ticks);
+    number_of(give(plan, orders, told))
 }
 
 /// Which machines are killed, and how, as C asks for it.
@@ -259,28 +274,6 @@ struct Asked {
     kind: u32,
     floor: u32,
     tear: u64,
-}
-
-/// The kind and the floor that are asked for.
-///
-/// # Errors
-///
-/// In order: `Argument` where a number is that of no kind; `Floor` where the floor is above the
-/// kind.
-fn kinds_of(asked: Asked) -> Result<(Kind, Kind), Status>
-    ensures kinds { IfOk result (λ kinds. AreKinds asked kinds.0 kinds.1) }
-    ensures none { IfErr result (NoKindAndFloor asked) }
-{
-    let Some(kind) = kind_of(asked.kind) else {
-        return Err(Status::Argument);
-    };
-    let Some(floor) = kind_of(asked.floor) else {
-        return Err(Status::Argument);
-    };
-    if floor.is_above(kind) {
-        return Err(Status::Floor);
-    }
-    Ok((kind, floor))
 }
 
 /// The machines that are asked for, drawn from a stream of the seed.
@@ -315,39 +308,22 @@ fn kill_orders(
     Ok(orders)
 }
 
-/// The orders of an attrition that is drawn.
-fn attrition(
-    alloc: Global,
-    map: &Map,
-    asked: Asked,
-    kind: Kind,
-    floor: Kind,
-) -> Result<Vec<FyOrder>, AllocError>
-    ensures { (ordered : rank floor ≤ rank kind) → IfOk result (λ orders.
-        IsAttritionOf map.now asked kind floor ordered orders.items) }
-{
-    let plan = draw_machines(alloc, map, asked)?;
-    kill_orders(alloc, &plan.machines, kind, floor, asked.tear)
-}
-
-/// Draws the attrition that is asked for, and writes its orders as `fy_attrition_plan` says.
+/// The orders of the attrition that is asked for.
 ///
 /// # Errors
 ///
-/// Those of `fy_attrition_plan`.
-fn plan_attrition(
-    alloc: Global,
-    map: &Map,
-    asked: Asked,
-    orders: &mut [FyOrder],
-    told: &mut usize,
-) -> Result<(), Status>
-    ensures { PlansAttrition map.now asked orders.old orders.new told.new (ending result) }
+/// In order: `Argument` where a number is that of no kind; `Floor` where the floor is above the
+/// kind; `NoMemory`.
+fn attrition(alloc: Global, map: &Map, asked: Asked) -> Result<Vec<FyOrder>, Status>
+    ensures drawn { IfOk result (λ orders.
+        (kind : Kind) × (floor : Kind) × (are : AreKinds asked.kind asked.floor kind floor)
+        × IsAttritionOf map.now asked kind floor are.ordered orders.items) }
+    ensures none { IfErr result (λ status. (orders : List FyOrder) →
+        PlansAttrition map.now asked orders orders 0 status) }
 {
-    *told = 0;
-    let (kind, floor) = kinds_of(asked)?;
-    let plan = attrition(alloc, map, asked, kind, floor)?;
-    give(&plan, orders, told)
+    let (kind, floor) = kinds_of(asked.kind, asked.floor)?;
+    let plan = draw_machines(alloc, map, asked)?;
+    Ok(kill_orders(alloc, &plan.machines, kind, floor, asked.tear)?)
 }
 
 /// Writes the orders of an attrition to the front of a buffer: those of the second, fourth, ..
@@ -396,8 +372,8 @@ pub extern "C" fn fy_attrition_plan(
         floor,
         tear,
     };
-    let map = guard.cluster().config().map();
-    number_of(plan_attrition(alloc, map, asked, orders, told))
+    let plan = attrition(alloc, guard.cluster().config().map(), asked);
+    number_of(give(plan, orders, told))
 }
 
 /// The plan that a program in C gives by its number.
@@ -433,16 +409,7 @@ fn no_order() -> FyOrder
 fn order_of_kill(order: KillOrder) -> FyOrder
     ensures { result ≡ order_of (act.Kill order) }
 {
-    let target = order.target();
-    FyOrder {
-        ticks: 0,
-        tear: order.tear(),
-        act: ORDER_KILL,
-        key: key_number(target.key),
-        kind: kind_number(order.kind()),
-        floor: kind_number(order.floor()),
-        value: with_zeros(&target.value),
-    }
+    order_to_kill(order.target(), order.kind(), order.floor(), order.tear())
 }
 
 /// The order of an act.

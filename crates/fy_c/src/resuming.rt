@@ -4,12 +4,15 @@ ghost use Rattle.fy_acts.specs.declared.entry.Entry.{Entry};
 ghost use Rattle.fy_cluster.specs.Replies.{Legal};
 ghost use Rattle.fy_acts.specs.declared.version.Version.TheVariants.{Second};
 ghost use Rattle.fy_c.specs.Resuming.{Follows, NotFollowed, OpensAfter, Refutes};
-ghost use Rattle.fy_c.specs.Statuses.{Answers, ending};
+ghost use Rattle.fy_c.specs.Statuses.{Answers};
+ghost use Rattle.fy_c.specs.declared.handle.FyGuard.{FyGuard};
+ghost use Rattle.fy_c.specs.declared.status.Status.TheVariants.{Done};
 
 use crate::checking::NO_BAD_ENTRY;
 use crate::handle::{FyGuard, closed_up};
 use crate::opening::begun;
-use crate::status::{Status, number_of};
+use crate::placing::put;
+use crate::status::Status;
 use fy_acts::Entry;
 use fy_audit::laws::an_audit_is_read_entry_by_entry;
 use fy_audit::{AuditReader, Version};
@@ -67,19 +70,21 @@ fn follow(alloc: Global, cluster: &mut Cluster, audit: &[u8]) -> Result<Option<u
     Ok(None)
 }
 
-/// Does what `fy_open_after` says.
+/// A guard whose cluster has the journal of an audit. The first bad entry goes to `first_bad`.
 ///
 /// # Errors
 ///
-/// Those of `fy_open_after`.
+/// As of `fy_open_after`.
 fn open_after(
     alloc: Global,
     config: &[u8],
     audit: &[u8],
-    guard: &mut FyGuard,
     first_bad: &mut u32,
-) -> Result<(), Status>
-    ensures { OpensAfter config.now audit.now guard.old guard.new first_bad.new (ending result) }
+) -> Result<FyGuard, Status>
+    ensures opened { IfOk result (λ guard. (old : FyGuard) →
+        OpensAfter config.now audit.now old guard first_bad.new Done) }
+    ensures refused { IfErr result (λ status. (old : FyGuard) →
+        OpensAfter config.now audit.now old old first_bad.new status) }
 {
     *first_bad = NO_BAD_ENTRY;
     let mut cluster = begun(alloc, config)?;
@@ -87,8 +92,7 @@ fn open_after(
         *first_bad = at;
         return Err(Status::Refuted);
     }
-    *guard = closed_up(Box::new(alloc, cluster)?);
-    Ok(())
+    Ok(closed_up(Box::new(alloc, cluster)?))
 }
 
 /// Opens a guard whose cluster has the journal of an audit: it goes on where the audit ends. What
@@ -112,5 +116,5 @@ pub extern "C" fn fy_open_after(
     ensures { Answers result
         (OpensAfter config.now audit.now guard.old guard.new first_bad.new) }
 {
-    number_of(open_after(alloc, config, audit, guard, first_bad))
+    put(open_after(alloc, config, audit, first_bad), guard)
 }

@@ -127,11 +127,11 @@ fn found(cluster: &Cluster, target: &Target) -> ProcSet
         .intersection(&cluster.left())
 }
 
-/// Writes the processes that a target means, as `fy_targets` says.
+/// Writes the processes that a target by numbers means.
 ///
 /// # Errors
 ///
-/// Those of `fy_targets`.
+/// In order: `Argument` where the number is that of no key; `Name` where the bytes are no name.
 fn write_targets(cluster: &Cluster, key: u32, value: &[u8], set: &mut [u64]) -> Result<(), Status>
     requires { length set.old ≡ SET_WORDS }
     ensures { Targets cluster.now key value.now set.old set.new (ending result) }

@@ -2,10 +2,11 @@
 ghost use Rattle.std.specs.Prelude.{◌≡◌};
 ghost use Rattle.fy_c.specs.Statuses.{number, ending};
 
+use fy_answers::AnswerFault;
 use fy_cluster::Fault;
 use fy_config::ConfigFault;
 use fy_kinds::Floor;
-use fy_spelling::{CommandFault, LineFault};
+use fy_spelling::LineFault;
 use std::alloc::{AllocError, AllocFailed};
 
 /// How a call ended. But for `Done`, `Refused` and `Unwritten` nothing changed.
@@ -57,17 +58,19 @@ pub enum Status {
     Refuted,
 }
 
-impl From<CommandFault> for Status {
-    ghost use Rattle.fy_c.specs.Statuses.{command_status};
+impl From<AnswerFault> for Status {
+    ghost use Rattle.fy_c.specs.Statuses.{answer_status};
 
-    ghost from_gives = { λ fault status. status ≡ command_status fault };
+    ghost from_gives = { λ fault status. status ≡ answer_status fault };
 
-    fn from(fault: CommandFault) -> Status {
+    fn from(fault: AnswerFault) -> Status {
         match fault {
-            CommandFault::Line(LineFault::TooLong) => Status::LineTooLong,
-            CommandFault::Line(LineFault::Syntax) => Status::LineSyntax,
-            CommandFault::Line(LineFault::Floor) => Status::Floor,
-            CommandFault::NoMemory => Status::NoMemory,
+            AnswerFault::Line(LineFault::TooLong) => Status::LineTooLong,
+            AnswerFault::Line(LineFault::Syntax) => Status::LineSyntax,
+            AnswerFault::Line(LineFault::Floor) => Status::Floor,
+            AnswerFault::JournalFull => Status::JournalFull,
+            AnswerFault::NoMemory => Status::NoMemory,
+            AnswerFault::Unwritten => Status::Unwritten,
         }
     }
 }

@@ -1,5 +1,5 @@
 -- whether an audit has a header, by what is held of it
-use Rattle.std.proofs.Common.{◌≡◌, ◌∙◌, ◌<◌, ℕ, List, [], ◌∷◌, ◌++◌, length, refl, sym, ap, arith, append_assoc, codes}
+use Rattle.std.proofs.Common.{◌≡◌, ◌∙◌, ◌<◌, ℕ, List, ◌∷◌, ◌++◌, length, refl, sym, ap, arith, append_assoc, codes}
 use Rattle.fy_lines.specs.Lines.{lines_of, IsLine}
 use Rattle.fy_lines.proofs.SplitLemmas.{lines_of_ended}
 use Rattle.fy_lines.proofs.FeedLemmas.{begins}

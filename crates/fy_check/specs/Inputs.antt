@@ -3,7 +3,6 @@ use Rattle.std.specs.Prelude.{◌≡◌, ◌≤◌, ◌+◌, ℕ, List, ◌∷�
 use Rattle.std.specs.Io.KnownBytes.{Consumes, IsAtEnd}
 use Rattle.fy_lines.specs.Windows.{IsCut}
 use Rattle.fy_lines.specs.declared.input.InputFault.{InputFault}
-use Rattle.fy_lines.specs.declared.input.InputFault.TheVariants as input
 use Rattle.fy_acts.specs.declared.entry.Entry.{Entry}
 use Rattle.fy_audit.specs.Audit.{Audit, AuditOf, MayStandFrom}
 use Rattle.fy_audit.specs.AuditText.{audit_text}
@@ -13,6 +12,7 @@ use Rattle.fy_audit.specs.declared.audit.AuditFault.TheVariants as audit
 use Rattle.fy_acts.specs.declared.version.Version.{Version}
 use Rattle.fy_streams.specs.declared.stop.Stop.{Stop}
 use Rattle.fy_streams.specs.declared.stop.Stop.TheVariants.{Audit as audit_stopped, Read, NoMemory}
+use Rattle.fy_streams.specs.Stops as stops
 use Rattle.fy_streams.specs.Stops.{IfAuditFault}
 
 -- an audit that is being read: its version, the place of the next entry, from 0, which bytes were
@@ -55,11 +55,9 @@ pub record IsReadInto (bytes : List ℕ) (version : Version) (count : ℕ) (P : 
 abbrev pub TellsFault : Option (List ℕ) → Stop → Type 0
 TellsFault known stop = IfAuditFault stop (λ fault. IfSome known (λ bytes. AuditOf bytes (Err fault)))
 
--- the stop for an input of which not all can be read
+-- the stop for an audit of which not all can be read
 abbrev pub input_stop : InputFault → Stop
-input_stop input.TooLong = audit_stopped audit.TooLong
-input_stop input.Reader = Read
-input_stop input.NoMemory = NoMemory
+input_stop fault = stops.input_stop (audit_stopped audit.TooLong) fault
 
 -- the stop where a line, of this number, is faulty: by that, or by a fault of the whole in its
 -- place

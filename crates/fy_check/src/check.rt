@@ -1,5 +1,5 @@
 //! The engine behind `faultyard check`: an audit in, a line out that confirms or refutes it.
-ghost use Rattle.std.specs.Prelude.{◌≡◌, ◌≢◌, ◌+◌, ℕ, Bool, List, Option, IfOk, IfErr, IfSome, OnOk, Err, codes, is_none};
+ghost use Rattle.std.specs.Prelude.{◌≡◌, ◌≢◌, ◌+◌, ℕ, Bool, List, Option, IfOk, IfErr, IfSome, Err, codes, is_none};
 ghost use Rattle.std.specs.Io.KnownBytes.{Appends};
 ghost use Rattle.fy_lines.specs.Prefixes.{AppendsProperPrefix};
 ghost use Rattle.fy_lines.specs.Readings.{ReadsAtMost};
@@ -10,34 +10,13 @@ ghost use Rattle.fy_check.specs.Checked.{IsReplayed};
 ghost use Rattle.fy_check.specs.Inputs.{IsInputStop, TellsFault};
 ghost use Rattle.fy_streams.specs.Stops.{numbered, IsCheckStop};
 
-use crate::input::{AuditInput, input_stop};
+use crate::input::AuditInput;
 use fy_audit::MOST_AUDIT_BYTES;
 use fy_cluster::Config;
-use fy_lines::read_limited;
 use fy_replay::Replayer;
 use fy_streams::{Stop, write_numbered};
 use std::alloc::Global;
 use std::io::{Read, Write};
-
-/// The bytes of the audit that a reader gives.
-pub fn load_audit<R: Read>(alloc: Global, reader: &mut R) -> Result<Vec<u8>, Stop>
-    ensures read { IfOk result (λ read. IfSome (R.remaining reader.old)
-        (λ bytes. read.items ≡ bytes)) }
-    ensures within { OnOk result
-        (ReadsAtMost (R.remaining reader.old) (R.remaining reader.new) MOST_AUDIT_BYTES) }
-    ensures refused { IfErr result (TellsFault (R.remaining reader.old)) }
-    ensures no_write { IfErr result (λ stop. stop ≢ Stop.Write) }
-    ensures own { IfErr result IsCheckStop }
-    ensures read_fault { result ≡ Err Stop.Read →
-        ReadsAtMost (R.remaining reader.old) (R.remaining reader.new) MOST_AUDIT_BYTES }
-    ensures no_further { ReadsAtMost (R.remaining reader.old) (R.remaining reader.new)
-        (MOST_AUDIT_BYTES + 1) }
-{
-    match read_limited(alloc, reader, MOST_AUDIT_BYTES) {
-        Ok(bytes) => Ok(bytes),
-        Err(fault) => Err(input_stop(fault)),
-    }
-}
 
 /// What is found of an audit.
 #[derive(Clone, Copy)]

@@ -42,19 +42,15 @@ impl Model for AuditInput {
     ghost invariant = { IsWithin };
 }
 
-/// The stop for an audit of which not all can be read. What is too long differs by what is read, so
-/// no `From` says it.
+/// The stop for an audit of which not all can be read.
 pub fn input_stop(fault: InputFault) -> Stop
     ensures stop { result ≡ input_stop fault }
     ensures own { IsInputStop result }
 {
-    match fault {
-        InputFault::TooLong => Stop::Audit {
-            fault: AuditFault::TooLong,
-        },
-        InputFault::Reader => Stop::Read,
-        InputFault::NoMemory => Stop::NoMemory,
-    }
+    let too_long = Stop::Audit {
+        fault: AuditFault::TooLong,
+    };
+    fy_streams::input_stop(fault, too_long)
 }
 
 /// The stop for a faulty line.

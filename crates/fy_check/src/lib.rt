@@ -6,6 +6,6 @@ mod input;
 pub mod laws;
 mod sink;
 
-pub use check::{Finding, ReplayedAudit, load_audit, replay_audit, run_check, write_finding};
+pub use check::{Finding, ReplayedAudit, replay_audit, run_check, write_finding};
 pub use input::{AuditInput, input_stop};
 pub use sink::Sink;

@@ -34,10 +34,10 @@ pub record IsHealed (c : Setup) (before after : Moment) (p : ℕ) : Type 0 where
   pub is : IsFalse (known_destroyed c after p)
 
 -- the premises, from one moment to the next:
--- 1. A process dies where the answer says so, and none dies where it doesn't. So whoever loses a
---    record is destroyed.
--- 2. The store acknowledges a record only if its holders together with the destroyed satisfy a
---    policy: at the acknowledgement, and after each heal.
+-- 1. A process that had a record and hasn't any more is destroyed by the guard's journal. No other
+--    death takes one, nor its disk, nor the store.
+-- 2. The store acknowledges a record only if its holders together with the destroyed satisfy one of
+--    the policies: at the acknowledgement, and after each heal.
 -- 3. A process is healed only once it has the acknowledged records again. It may lack those that 2
 --    covers without it.
 pub record KeepsPremises (c : Setup) (before after : Moment) : Type 0 where

@@ -64,7 +64,8 @@ impl Drop for Cluster {
 fn make_place(journal: &mut Journal, state: &ClusterState) -> Result<(), Fault>
     ensures full { (state.now.setup.limit ≤ length state.now.journal) ↔ (result ≡ Err JournalFull) }
     ensures room { OnOk result (length state.now.journal < state.now.setup.limit) }
-    ensures place { OnOk result (journal.new ≡ record journal.old { room = max journal.old.room 1 }) }
+    ensures place { OnOk result
+        (journal.new ≡ record journal.old { room = max journal.old.room 1 }) }
     ensures err { OnErr result (journal.new ≡ journal.old) }
 {
     if state.is_full() {

@@ -114,7 +114,8 @@ impl Parts<'_> {
     /// Whether each number is in its range, and each actor and process that is named is there.
     fn is_in_range(&self) -> bool
         ensures { result ≡ is_in_range (setup_of self.now.map.now self.now.policies.now
-            self.now.roles.now self.now.grants.now self.now.protections.now self.now.journal_limit) }
+            self.now.roles.now self.now.grants.now self.now.protections.now
+            self.now.journal_limit) }
     {
         (1..=MOST_POLICIES).contains(&self.policies.len())
             && (1..=MOST_ACTORS).contains(&self.roles.len())

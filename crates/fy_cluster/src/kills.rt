@@ -25,7 +25,8 @@ use fy_locality::{Map, ProcId, ProcSet};
 /// nothing.
 fn strike_disk(disks: &mut Disks, p: ProcId, kind: Kind, tear: u64)
     requires { p.0 < length disks.old }
-    ensures { disks.new ≡ slice_set disks.old p.0 (disk_after_strike kind tear (disk_of disks.old p.0)) }
+    ensures { disks.new
+        ≡ slice_set disks.old p.0 (disk_after_strike kind tear (disk_of disks.old p.0)) }
 {
     match kind {
         Kind::RebootProcess => {}

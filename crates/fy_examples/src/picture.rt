@@ -58,3 +58,19 @@ fn a_tick_is_drawn_alone(rt: HostRuntime) -> Result<(), Fail> {
     assert!(rt; text.as_str().starts_with("<svg "));
     Ok(())
 }
+
+#[test]
+fn a_journal_is_entered(rt: HostRuntime) -> Result<(), Fail> {
+    let alloc = rt.alloc();
+    let config = config_of_one(alloc)?;
+    let mut journal = Journal::make(alloc);
+    journal.reserve(2)?;
+    journal.push(0, Act::Tick { ticks: 1 }, Reply::Time { now: 1 });
+    journal.push(0, Act::Tick { ticks: 1 }, Reply::Time { now: 1 });
+    let mut drawing = Drawing::begin(alloc, &config, journal.version())?;
+    drawing.enter_all(&journal)?;
+    assert_eq!(rt; drawing.first_bad(), Some(1));
+    let text = drawing.finish(&config)?;
+    assert!(rt; text.as_str().starts_with("<svg "));
+    Ok(())
+}

@@ -141,7 +141,8 @@ impl Window {
         requires room { length self.old.held < WINDOW_BYTES }
         requires within { self.old.read ≤ limit }
         requires countable { limit < 2 ^ 63 }
-        ensures slides { Slides self.old self.new (R.remaining reader.old) (R.remaining reader.new) }
+        ensures slides { Slides self.old self.new
+            (R.remaining reader.old) (R.remaining reader.new) }
         ensures grown { result ≡ Ok true → self.old.read < self.new.read }
         ensures at_end { result ≡ Ok false → IsAtEnd (R.remaining reader.new) }
         ensures none { result ≡ Ok false → self.new.read ≡ self.old.read }
@@ -179,7 +180,8 @@ impl Window {
         requires within { self.old.read ≤ limit }
         requires countable { limit < 2 ^ 63 }
         ensures found { IfOk result (IsNext self.new.held (R.remaining reader.new) most) }
-        ensures slides { Slides self.old self.new (R.remaining reader.old) (R.remaining reader.new) }
+        ensures slides { Slides self.old self.new
+            (R.remaining reader.old) (R.remaining reader.new) }
         ensures within { OnOk result (self.new.read ≤ limit) }
         ensures cut { IfErr result (IsCut self.new.read limit) }
     {

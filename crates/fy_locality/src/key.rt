@@ -13,7 +13,7 @@ pub enum Key {
 }
 
 /// Every key.
-const KEYS: [Key; 5] = [
+pub const KEYS: [Key; 5] = [
     Key::Process,
     Key::Machine,
     Key::Zone,

@@ -10,7 +10,7 @@ mod process_set;
 mod processes;
 mod try_copy;
 
-pub use key::Key;
+pub use key::{KEYS, Key};
 pub use locality::Locality;
 pub use map::{Map, MapFault};
 pub use name::{BadName, Name};

@@ -24,6 +24,10 @@ all_recorded c entries recording has none =
     ∙ ap (upto c)
     (ap (λ o. take (unwrap_or o (length entries)) entries) none ∙ take_all (length entries) entries (omega arith))
 
+-- and so the next one's place is how many were recorded
+pub next_place : (c : Setup) (entries : List Entry) (recording : Recording) → HasRecorded c entries recording → recording.first_bad ≡ None → length entries ≡ length recording.execution.journal
+next_place c entries recording has none = sym (ap (λ (x : Execution). length x.journal) (all_recorded c entries recording has none))
+
 -- a recording of no entry
 pub none_recorded : (c : Setup) (recording : Recording) → HasFirstBad recording.version c [] recording.first_bad → recording.first_bad ≡ None → recording.execution ≡ record { setup = c; journal = [] } → HasRecorded c [] recording
 none_recorded c recording first none is = record {
@@ -135,6 +139,41 @@ bad_of_all version c entries n at recording has some same =
     let whole = bad_in_front recording.version c (take n entries) (drop n entries) at first in
     subst (λ v. IsFirstBad v c entries at) same
     (subst (λ es. IsFirstBad recording.version c es at) (take-append-drop n entries) whole)
+
+-- a recording of this version says which of its entries is the first bad one
+pub first_of : (version : Version) (c : Setup) (entries : List Entry) (recording : Recording) → HasRecorded c entries recording → recording.version ≡ version → HasFirstBad version c entries recording.first_bad
+first_of version c entries recording has same = subst (λ v. HasFirstBad v c entries recording.first_bad) same has.first
+
+-- of no entries none is bad
+pub none_is_bad : (c : Setup) (recording : Recording) → HasRecorded c [] recording → recording.first_bad ≡ None
+none_is_bad c recording has = by recording.first_bad refl
+  where
+    by : (o : Option ℕ) → recording.first_bad ≡ o → recording.first_bad ≡ None
+    by None is = is
+    by (Some at) is =
+        let within : at < 0 = bad_within recording.version c [] at (subst (HasFirstBad recording.version c []) is has.first) in
+        absurd (omega arith)
+
+-- where one of the first entries is bad, those behind them change nothing
+pub bad_recorded_of_all : (c : Setup) (entries : List Entry) (n : ℕ) (recording : Recording) → HasRecorded c (take n entries) recording → IsSome recording.first_bad → HasRecorded c entries recording
+bad_recorded_of_all c entries n recording has some = by recording.first_bad refl
+  where
+    by : (o : Option ℕ) → recording.first_bad ≡ o → HasRecorded c entries recording
+    by None is = absurd (let no : IsSome {T = ℕ} None = subst IsSome is some in let bad : ⊥ = cc in bad)
+    by (Some at) is =
+        let first = subst (HasFirstBad recording.version c (take n entries)) is has.first in
+        let within : at < length (take n entries) = bad_within recording.version c (take n entries) at first in
+        record {
+          first = subst (HasFirstBad recording.version c entries) (sym is)
+              (bad_of_all recording.version c entries n at recording has is refl);
+          execution =
+              has.execution
+              ∙ ap (λ o. upto c (take (unwrap_or o (length (take n entries))) (take n entries))) is
+              ∙ ap (upto c)
+              (sym (take-append-le at (take n entries) (drop n entries) (omega arith))
+              ∙ ap (take at) (take-append-drop n entries)
+              ∙ ap (λ o. take (unwrap_or o (length entries)) entries) (sym is));
+        }
 
 -- what was recorded doesn't hang on the columns
 pub recorded_alike : (c : Setup) (entries : List Entry) (old new : Recording) → new ≡ record old { columns = new.columns } → HasRecorded c entries old → HasRecorded c entries new

@@ -119,7 +119,7 @@ one_more_ended old new n start ended due entries so_far =
     }
 
 -- the ends that are listed stay
-with_room_laid : (n : ℕ) (cs : ColumnsSoFar) → (with_room n cs).laid ≡ cs.laid
+pub with_room_laid : (n : ℕ) (cs : ColumnsSoFar) → (with_room n cs).laid ≡ cs.laid
 with_room_laid n cs = by (is_full n cs)
   where
     by : (b : Bool) → (if b then folded cs else cs).laid ≡ cs.laid

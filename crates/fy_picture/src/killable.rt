@@ -11,7 +11,7 @@ ghost use Rattle.fy_picture.specs.Killable.{AreCounted, AreCountsAt, HaveSameLos
 ghost use Rattle.fy_picture.specs.Layouts.{ends_of};
 
 use crate::column::{Column, States};
-use crate::tallied_set::{TalliedSet, differing};
+use crate::tallied_set::{TalliedSet, symmetric_difference};
 use fy_cluster::Config;
 use fy_locality::{Map, ProcId, ProcSet};
 use fy_policy::Policy;
@@ -23,7 +23,7 @@ use std::sync::Arc;
 fn is_same_set(one: &ProcSet, other: &ProcSet) -> bool
     ensures { IsTrue result → one.now ≡ other.now }
 {
-    differing(one, other).is_empty()
+    symmetric_difference(one, other).is_empty()
 }
 
 /// Whether the same processes are destroyed and left in two states.

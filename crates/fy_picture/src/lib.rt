@@ -18,6 +18,7 @@ pub use glyph::{rule_of, struck_as_ordered};
 pub use named::named_by;
 pub use picture::{Picture, draw};
 pub use recorder::Recorder;
+pub use tallied_set::symmetric_difference;
 
 /// The most columns that a journal is laid out in. Where it has more entries, each column stands
 /// for several.

@@ -73,7 +73,8 @@ impl Recorder {
         version: Version,
         ends: Vec<u32>,
     ) -> Result<Recorder, AllocError>
-        ensures begun { IfOk result (λ recorder. recorder ≡ begun version config (Some ends.items)) }
+        ensures begun { IfOk result
+            (λ recorder. recorder ≡ begun version config (Some ends.items)) }
         ensures recorded { IfOk result (HasRecorded config []) }
     {
         Recorder::begin_planned(alloc, config, version, Plan::Laid(ends))

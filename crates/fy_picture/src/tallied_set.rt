@@ -37,8 +37,8 @@ impl Model for TalliedSet {
     ghost invariant = { λ s. s.tally.set ≡ s.set };
 }
 
-/// Those that are in one of two sets alone.
-pub(crate) fn differing(one: &ProcSet, other: &ProcSet) -> ProcSet
+/// The processes that one of two sets alone has. Doesn't allocate.
+pub fn symmetric_difference(one: &ProcSet, other: &ProcSet) -> ProcSet
     ensures { result ≡ sets.union
         (sets.difference one.now other.now) (sets.difference other.now one.now) }
 {
@@ -82,7 +82,7 @@ impl TalliedSet {
     pub(crate) fn move_to(&mut self, set: &ProcSet)
         ensures { self.new ≡ record self.old { set = set.now } }
     {
-        let those = differing(&self.set, set);
+        let those = symmetric_difference(&self.set, set);
         move_those(&mut self.tally, &those, set);
         self.set = *set;
     }

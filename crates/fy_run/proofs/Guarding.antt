@@ -5,17 +5,19 @@ use Rattle.std.proofs.lemmas.Bool.{and_parts}
 use Rattle.std.proofs.lemmas.Bool.Decides.{nat_tests}
 use Rattle.std.specs.Prelude.{IfSome, Result, Ok, Err}
 use Rattle.std.specs.List.{flat_map}
-use Rattle.std.specs.Io.KnownBytes.{Appends, IsAtEnd}
-use Rattle.std.proofs.KnownBytes.{Appends-nil, Appends-trans, Appends-kept, Keeps-refl}
+use Rattle.std.specs.Io.KnownBytes.{Appends, IsAtEnd, Keeps}
+use Rattle.std.proofs.KnownBytes.{Appends-nil, Appends-trans, Appends-kept}
 use Rattle.fy_lines.specs.Lines.{lines_of}
 use Rattle.fy_lines.specs.Prefixes.{AppendsProperPrefix}
-use Rattle.fy_lines.specs.Readings.{ReadsLine}
+use Rattle.fy_lines.specs.Readings.{HasLongLine, ReadsLine}
+use Rattle.fy_lines.specs.declared.input.InputFault.{InputFault}
+use Rattle.fy_lines.specs.declared.input.InputFault.TheVariants as input
 use Rattle.fy_acts.specs.declared.entry.Entry.{Entry}
-use Rattle.fy_spelling.specs.Command.{LineOf, LineAnswers}
+use Rattle.fy_spelling.specs.Command.{LineOf}
 use Rattle.fy_spelling.specs.declared.command.Command.{Command}
+use Rattle.fy_spelling.specs.declared.command.TheConstants.{MOST_LINE_BYTES}
 use Rattle.fy_spelling.specs.declared.command.LineFault.{LineFault}
-use Rattle.fy_spelling.specs.declared.command.CommandFault.{CommandFault}
-use Rattle.fy_spelling.specs.declared.command.CommandFault.TheVariants as command_fault
+use Rattle.fy_spelling.specs.declared.command.LineFault.TheVariants.{TooLong}
 use Rattle.fy_acts.specs.declared.version.Version.TheVariants.{Second}
 use Rattle.fy_audit.specs.AuditText.{header, entry_line}
 use Rattle.fy_audit.specs.Script.{AreCommands}
@@ -25,12 +27,25 @@ use Rattle.fy_cluster.specs.Replies.{Legal}
 use Rattle.fy_cluster.specs.Survival.{by_and_act}
 use Rattle.fy_cluster.specs.Execution.{Execution, opened, next_entry, entered}
 use Rattle.fy_run.specs.RunTexts.{asked, lines_of_entries, IfRunRefusal}
-use Rattle.fy_run.specs.GuardTexts.{Answered, AnsweredFrom, room_in, StopsAtLine, AllAnswered, AreBefore, AnsweredBefore, FirstAnswered, AreInTurn, AnswersAll, AnswersBefore, AnswersSome, AppendsAtLeast, GivesCommand, NoCommand, NoAnswer}
-use Rattle.fy_cluster.specs.declared.fault.Fault.{Fault}
-use Rattle.fy_cluster.specs.declared.fault.Fault.TheVariants as cluster_fault
-use Rattle.fy_streams.specs.Stops.{entering_stop, command_stop, IsRunStop}
+use Rattle.fy_run.specs.GuardTexts.{Answered, AnsweredFrom, room_in, StopsAtLine, AllAnswered, AreBefore, AnsweredBefore, FirstAnswered, AreInTurn, AnswersAll, AnswersBefore, AnswersSome, AppendsAtLeast, NoLine, NoAnswer, answer_stop}
+use Rattle.fy_answers.specs.Answers.{HasNoEntry, HasNoAnswer, IsAnswered}
+use Rattle.fy_answers.specs.declared.fault.AnswerFault.{AnswerFault}
+use Rattle.fy_answers.specs.declared.fault.AnswerFault.TheVariants as answer
+use Rattle.fy_streams.specs.Stops.{IsRunStop, input_stop}
 use Rattle.fy_streams.specs.declared.stop.Stop.{Stop}
 use Rattle.fy_streams.specs.declared.stop.Stop.TheVariants.{JudgeTooLong, JudgeLine, Config, Script, JournalFull, Audit, Events, SwarmClose, Read, Write, NoMemory}
+
+-- the next line is the command, and no byte behind it was read
+abbrev pub GivesCommand : Option (List ℕ) → Option (List ℕ) → Command → Type 0
+GivesCommand old new command =
+    IfSome old (λ bytes. (line : List ℕ) × (rest : List ℕ) × (new ≡ Some rest)
+    × (lines_of bytes ≡ line ∷ lines_of rest) × LineOf line (Ok command))
+
+-- a line that was read is the command that it spells
+pub gives : (left next : Option (List ℕ)) (line : List ℕ) (command : Command) →
+    ReadsLine left next line → LineOf line (Ok command) → GivesCommand left next command
+gives None next line command reads spelled = tt
+gives (Some bytes) next line command (rest, is, first) spelled = (line, rest, is, first, spelled)
 
 -- the entry that a command makes next
 abbrev pub entry_of : Execution → Command → Entry
@@ -109,11 +124,6 @@ read_one_more (Some bytes) left next made execution command read gives =
           ∙ sym (asked_one_more commands command),
     )
 
--- what a reader of commands gave is the command that it was found to be
-pub gave : (left next : Option (List ℕ)) {found : Option Command} {command : Command} →
-    found ≡ Some command → IfSome found (GivesCommand left next) → GivesCommand left next command
-gave left next is gives = subst (λ o. IfSome o (GivesCommand left next)) is gives
-
 -- the journal has one entry more then
 grown_more : (command : Command) {from : Execution} {old left before out : Option (List ℕ)}
     {execution now : Execution} → (has : HasAnswered from old left before out execution) →
@@ -125,21 +135,25 @@ grown_more command {from} {old} {left} {before} {out} {execution} {now} has ente
     ∙ append_assoc from.journal has.made (entry_of execution command ∷ [])
 
 -- one line more is read and answered
-pub goes_on : (command : Command) {from : Execution} {old left next before out longer : Option (List ℕ)}
-    {execution now : Execution} → HasAnswered from old left before out execution →
-    GivesCommand left next command → now ≡ entered execution command.by command.act →
-    Legal now.setup now.journal → Appends out longer (entry_line (entry_of execution command)) →
+pub goes_on : (line : List ℕ) {text : List ℕ} {from : Execution}
+    {old left next before out longer : Option (List ℕ)} {execution now : Execution} →
+    HasAnswered from old left before out execution → ReadsLine left next line →
+    IsAnswered execution now line text → Appends out longer text →
     HasAnswered from old next before longer now
-goes_on command {from} {old} {left} {next} {before} {out} {longer} {execution} {now} has gives enters legal written =
+goes_on line {text} {from} {old} {left} {next} {before} {out} {longer} {execution} {now} has reads answered written =
+    let command = answered.command in
+    let entry = entry_of execution command in
+    let made = answered.entered.made in
     record {
-      same = ap (λ (c : Execution). c.setup) enters ∙ has.same;
-      legal = legal;
-      made = has.made ++ entry_of execution command ∷ [];
-      grown = grown_more command has enters;
-      read = read_one_more old left next has.made execution command has.read gives;
-      written = subst (Appends before longer) (sym (lines_one_more has.made (entry_of execution command)))
-          (Appends-trans before out longer (lines_of_entries has.made)
-          (entry_line (entry_of execution command)) has.written written);
+      same = ap (λ (c : Execution). c.setup) made.entered ∙ has.same;
+      legal = made.survives.legal;
+      made = has.made ++ entry ∷ [];
+      grown = grown_more command has made.entered;
+      read = read_one_more old left next has.made execution command has.read
+          (gives left next line command reads answered.asked);
+      written = subst (Appends before longer) (sym (lines_one_more has.made entry))
+          (Appends-trans before out longer (lines_of_entries has.made) (entry_line entry) has.written
+          (subst (Appends out longer) answered.entered.text_is written));
     }
 
 -- the journal is legal behind that of before
@@ -237,21 +251,18 @@ longer_by {from} {old} {left} {before} {out} {execution} has =
 
 -- ---- where it stops
 
-at_line : (known next : Option (List ℕ)) (line : List ℕ) (fault : LineFault) →
-    ReadsLine known next line → LineOf line (Err fault) →
+-- the next line has this fault
+abbrev IsFaulty : Option (List ℕ) → LineFault → Type 0
+IsFaulty known fault =
     IfSome known (λ bytes. (line : List ℕ) × (more : List (List ℕ)) × (lines_of bytes ≡ line ∷ more)
     × LineOf line (Err fault))
-at_line None next line fault gives faulty = tt
-at_line (Some bytes) next line fault (rest, is, first) faulty = (line, lines_of rest, first, faulty)
 
--- the next line is no command, by what its reader answers
-pub by_fault : (known next : Option (List ℕ)) (line : List ℕ) (number : ℕ) (fault : CommandFault)
-    (stop : Stop) → ReadsLine known next line → LineAnswers line (Err fault) →
-    stop ≡ command_stop number fault → NoCommand known number stop
-by_fault known next line number (command_fault.Line fault) stop gives faulty is =
-    NoCommand.faulty fault is (at_line known next line fault gives faulty)
-by_fault known next line number command_fault.NoMemory stop gives answers is =
-    NoCommand.no_memory is
+-- a line that was read has its fault
+faulty_there : (known next : Option (List ℕ)) (line : List ℕ) (fault : LineFault) →
+    ReadsLine known next line → LineOf line (Err fault) → IsFaulty known fault
+faulty_there None next line fault reads faulty = tt
+faulty_there (Some bytes) next line fault (rest, is, first) faulty =
+    (line, lines_of rest, first, faulty)
 
 -- the next line has no answer, for this reason
 abbrev HasNone : ℕ → ℕ → Stop → Option (List ℕ) → Type 0
@@ -291,8 +302,7 @@ stops_before from (Some bytes) left before out execution stop P has at_line hold
     }
 
 is_faulty : (room : ℕ) (known : Option (List ℕ)) (answered number : ℕ) (fault : LineFault) →
-    number ≡ answered + 1 → IfSome known (λ bytes. (line : List ℕ) × (more : List (List ℕ))
-    × (lines_of bytes ≡ line ∷ more) × LineOf line (Err fault)) →
+    number ≡ answered + 1 → IsFaulty known fault →
     HasNone room answered (Script (Line number fault)) known
 is_faulty room None answered number fault is line = tt
 is_faulty room (Some bytes) answered number fault is (line, more, first, faulty) = (
@@ -303,20 +313,45 @@ is_faulty room (Some bytes) answered number fault is (line, more, first, faulty)
       (StopsAtLine.faulty fault faulty),
 )
 
--- the next line is no command
+-- a stop by which the lines before the next one are answered
+abbrev Stopped : Execution → Option (List ℕ) → (List ℕ → Type 0) → Stop → Type 0
+Stopped from old P stop = IfRunRefusal stop (AnsweredBefore (AnsweredFrom from) (room_in from) old stop P)
+
+-- the next line is faulty
+refused_faulty : {from : Execution} {old left before out : Option (List ℕ)} {execution : Execution}
+    {number : ℕ} (fault : LineFault) (P : List ℕ → Type 0) →
+    (has : HasAnswered from old left before out execution) → number ≡ length has.made + 1 →
+    IsFaulty left fault → P (lines_of_entries has.made) →
+    Stopped from old P (Script (Line number fault))
+refused_faulty {from} {old} {left} {before} {out} {execution} {number} fault P has is line holds =
+    stops_before from old left before out execution (Script (Line number fault)) P has
+    (is_faulty (room_in from) left (length has.made) number fault is line) holds
+
+-- what a reader of lines answers of the next one, which has this number, where it isn't had
+pub no_line : (known : Option (List ℕ)) (number : ℕ) (fault : InputFault) (stop : Stop) →
+    (fault ≡ input.TooLong → HasLongLine known MOST_LINE_BYTES) →
+    stop ≡ input_stop (Script (Line number TooLong)) fault → NoLine known number stop
+no_line known number input.TooLong stop long is = NoLine.too_long is (long refl)
+no_line known number input.Reader stop long is = NoLine.read is
+no_line known number input.NoMemory stop long is = NoLine.no_memory is
+
+-- and where the reader failed, the line isn't too long
+pub not_long : (number : ℕ) (fault : InputFault) → input_stop (Script (Line number TooLong)) fault ≡ Read →
+    fault ≡ input.TooLong → ⊥
+not_long number fault read long = let bad : ⊥ = cc in bad
+
+-- the next line is too long, or couldn't be had
 pub refused_line : {from : Execution} {old left before out : Option (List ℕ)} {execution : Execution}
     {number : ℕ} {stop : Stop} (P : List ℕ → Type 0) →
     (has : HasAnswered from old left before out execution) →
-    number ≡ length has.made + 1 → NoCommand left number stop → P (lines_of_entries has.made) →
+    number ≡ length has.made + 1 → NoLine left number stop → P (lines_of_entries has.made) →
     IfRunRefusal stop (AnsweredBefore (AnsweredFrom from) (room_in from) old stop P)
-refused_line {from} {old} {left} {before} {out} {execution} {number} {stop} P has is (NoCommand.faulty fault told line) holds =
-    subst (λ s. IfRunRefusal s (AnsweredBefore (AnsweredFrom from) (room_in from) old s P)) (sym told)
-    (stops_before from old left before out execution (Script (Line number fault)) P has
-    (is_faulty (room_in from) left (length has.made) number fault is line) holds)
-refused_line {from} {old} {left} {before} {out} {execution} {number} {stop} P has is (NoCommand.read told) holds =
-    subst (λ s. IfRunRefusal s (AnsweredBefore (AnsweredFrom from) (room_in from) old s P)) (sym told) tt
-refused_line {from} {old} {left} {before} {out} {execution} {number} {stop} P has is (NoCommand.no_memory told) holds =
-    subst (λ s. IfRunRefusal s (AnsweredBefore (AnsweredFrom from) (room_in from) old s P)) (sym told) tt
+refused_line {from} {old} {left} {before} {out} {execution} {number} {stop} P has is (NoLine.too_long told long) holds =
+    subst (Stopped from old P) (sym told) (refused_faulty TooLong P has is long holds)
+refused_line {from} {old} {left} {before} {out} {execution} {number} {stop} P has is (NoLine.read told) holds =
+    subst (Stopped from old P) (sym told) tt
+refused_line {from} {old} {left} {before} {out} {execution} {number} {stop} P has is (NoLine.no_memory told) holds =
+    subst (Stopped from old P) (sym told) tt
 
 is_full : (room : ℕ) (known next : Option (List ℕ)) (answered : ℕ) (command : Command) →
     GivesCommand known next command → room ≤ answered → HasNone room answered JournalFull known
@@ -334,51 +369,63 @@ no_room {from} {old} {left} {before} {out} {execution} has full =
     let longer = longer_by has in
     omega arith
 
--- the command of the next line has no answer
-pub refused_command : (next : Option (List ℕ)) {from : Execution} {old left before out short : Option (List ℕ)}
-    {execution now : Execution} {command : Command} {stop : Stop} →
-    HasAnswered from old left before out execution → GivesCommand left next command →
-    NoAnswer execution command now out short stop →
+-- a line that was read has no answer
+refused_for : {from : Execution} {old left before out : Option (List ℕ)}
+    {execution now : Execution} {number room : ℕ} (line : List ℕ) (next short : Option (List ℕ))
+    (fault : AnswerFault) → (has : HasAnswered from old left before out execution) →
+    number ≡ length has.made + 1 → ReadsLine left next line → Keeps out short →
+    HasNoAnswer execution now line room fault →
+    Stopped from old (Appends before short) (answer_stop number fault)
+refused_for {from} {old} {left} {before} {out} {execution} {now} {number} {room} line next short _ has is reads keeps (HasNoAnswer.faulty fault faulty kept) =
+    refused_faulty fault (Appends before short) has is (faulty_there left next line fault reads faulty)
+    (Appends-kept before out short (lines_of_entries has.made) has.written keeps)
+refused_for {from} {old} {left} {before} {out} {execution} {now} {number} {room} line next short _ has is reads keeps (HasNoAnswer.unread kept) = tt
+refused_for {from} {old} {left} {before} {out} {execution} {now} {number} {room} line next short _ has is reads keeps (HasNoAnswer.no_entry command spelled _ (HasNoEntry.full full kept)) =
+    stops_before from old left before out execution JournalFull (Appends before short) has
+    (is_full (room_in from) left next (length has.made) command
+    (gives left next line command reads spelled) (no_room has full))
+    (Appends-kept before out short (lines_of_entries has.made) has.written keeps)
+refused_for {from} {old} {left} {before} {out} {execution} {now} {number} {room} line next short _ has is reads keeps (HasNoAnswer.no_entry command spelled _ (HasNoEntry.no_memory kept)) = tt
+refused_for {from} {old} {left} {before} {out} {execution} {now} {number} {room} line next short _ has is reads keeps (HasNoAnswer.no_entry command spelled _ (HasNoEntry.unwritten made long)) = tt
+
+-- a line that was read has no answer, or its answer isn't out whole
+pub refused_answer : {from : Execution} {old left before out short : Option (List ℕ)}
+    {execution now : Execution} {number : ℕ} {stop : Stop} (line : List ℕ) (next : Option (List ℕ)) →
+    (has : HasAnswered from old left before out execution) → number ≡ length has.made + 1 →
+    ReadsLine left next line → NoAnswer execution now line number out short stop →
     IfRunRefusal stop (AnsweredBefore (AnsweredFrom from) (room_in from) old stop (Appends before short))
-refused_command next {from} {old} {left} {before} {out} {short} {execution} {now} {command} {stop} has gives (NoAnswer.full told full keeps) =
-    subst (λ s. IfRunRefusal s (AnsweredBefore (AnsweredFrom from) (room_in from) old s (Appends before short))) (sym told)
-    (stops_before from old left before out execution JournalFull (Appends before short) has
-    (is_full (room_in from) left next (length has.made) command gives (no_room has full))
-    (Appends-kept before out short (lines_of_entries has.made) has.written keeps))
-refused_command next {from} {old} {left} {before} {out} {short} {execution} {now} {command} {stop} has gives (NoAnswer.no_memory told keeps) =
-    subst (λ s. IfRunRefusal s (AnsweredBefore (AnsweredFrom from) (room_in from) old s (Appends before short))) (sym told) tt
-refused_command next {from} {old} {left} {before} {out} {short} {execution} {now} {command} {stop} has gives (NoAnswer.short told enters legal stops) =
-    subst (λ s. IfRunRefusal s (AnsweredBefore (AnsweredFrom from) (room_in from) old s (Appends before short))) (sym told) tt
+refused_answer {from} {old} {left} {before} {out} {short} {execution} {now} {number} {stop} line next has is reads (NoAnswer.unanswered room fault none told keeps) =
+    subst (Stopped from old (Appends before short)) (sym told)
+    (refused_for line next short fault has is reads keeps none)
+refused_answer {from} {old} {left} {before} {out} {short} {execution} {now} {number} {stop} line next has is reads (NoAnswer.short text answered told stops) =
+    subst (Stopped from old (Appends before short)) (sym told) tt
 
 pub at_least : (old new : Option (List ℕ)) (text : List ℕ) → Appends old new text →
     AppendsAtLeast old new text
 at_least old new text written = ([], subst (Appends old new) (sym (append-nil text)) written)
 
 -- what is out where an answer isn't whole: all answers before it
-pub still_out : {from : Execution} {old left before out short : Option (List ℕ)} {execution now : Execution}
-    {command : Command} {stop : Stop} → (has : HasAnswered from old left before out execution) →
-    NoAnswer execution command now out short stop →
+pub still_out : {from : Execution} {old left before out short : Option (List ℕ)}
+    {execution now : Execution} {line : List ℕ} {number : ℕ} {stop : Stop} →
+    (has : HasAnswered from old left before out execution) →
+    NoAnswer execution now line number out short stop →
     AppendsAtLeast before short (lines_of_entries has.made)
-still_out {from} {old} {left} {before} {out} {short} {execution} {now} {command} {stop} has (NoAnswer.full told full keeps) =
+still_out {from} {old} {left} {before} {out} {short} {execution} {now} {line} {number} {stop} has (NoAnswer.unanswered room fault none told keeps) =
     at_least before short (lines_of_entries has.made)
     (Appends-kept before out short (lines_of_entries has.made) has.written keeps)
-still_out {from} {old} {left} {before} {out} {short} {execution} {now} {command} {stop} has (NoAnswer.no_memory told keeps) =
-    at_least before short (lines_of_entries has.made)
-    (Appends-kept before out short (lines_of_entries has.made) has.written keeps)
-still_out {from} {old} {left} {before} {out} {short} {execution} {now} {command} {stop} has (NoAnswer.short told enters legal stops) =
+still_out {from} {old} {left} {before} {out} {short} {execution} {now} {line} {number} {stop} has (NoAnswer.short text answered told stops) =
     let (front, rest, is, grown, some) = stops in
     (front, Appends-trans before out short (lines_of_entries has.made) front has.written grown)
 
 -- and where an allocation fails, nothing more
-pub none_out : {from : Execution} {old left before out short : Option (List ℕ)} {execution now : Execution}
-    {command : Command} {stop : Stop} → (has : HasAnswered from old left before out execution) →
-    NoAnswer execution command now out short stop → stop ≡ NoMemory →
+pub none_out : {from : Execution} {old left before out short : Option (List ℕ)}
+    {execution now : Execution} {line : List ℕ} {number : ℕ} {stop : Stop} →
+    (has : HasAnswered from old left before out execution) →
+    NoAnswer execution now line number out short stop → stop ≡ NoMemory →
     Appends before short (lines_of_entries has.made)
-none_out {from} {old} {left} {before} {out} {short} {execution} {now} {command} {stop} has (NoAnswer.full told full keeps) is =
+none_out {from} {old} {left} {before} {out} {short} {execution} {now} {line} {number} {stop} has (NoAnswer.unanswered room fault none told keeps) is =
     Appends-kept before out short (lines_of_entries has.made) has.written keeps
-none_out {from} {old} {left} {before} {out} {short} {execution} {now} {command} {stop} has (NoAnswer.no_memory told keeps) is =
-    Appends-kept before out short (lines_of_entries has.made) has.written keeps
-none_out {from} {old} {left} {before} {out} {short} {execution} {now} {command} {stop} has (NoAnswer.short told enters legal stops) is =
+none_out {from} {old} {left} {before} {out} {short} {execution} {now} {line} {number} {stop} has (NoAnswer.short text answered told stops) is =
     let bad : ⊥ = cc in absurd bad
 
 pub short_behind : (first second third : Option (List ℕ)) (done piece : List ℕ) →
@@ -407,24 +454,46 @@ first_answered from (Some bytes) left made P read legal holds =
       out = holds;
     }
 
+-- what has no answer stops neither by a read fault nor by a write fault, and as a guard may
+answers_no_read : (number : ℕ) (fault : AnswerFault) → answer_stop number fault ≡ Read → ⊥
+answers_no_read number (answer.Line fault) is = let bad : ⊥ = cc in bad
+answers_no_read number answer.JournalFull is = let bad : ⊥ = cc in bad
+answers_no_read number answer.NoMemory is = let bad : ⊥ = cc in bad
+answers_no_read number answer.Unwritten is = let bad : ⊥ = cc in bad
+
+answers_no_write : (number : ℕ) (fault : AnswerFault) → answer_stop number fault ≡ Write → ⊥
+answers_no_write number (answer.Line fault) is = let bad : ⊥ = cc in bad
+answers_no_write number answer.JournalFull is = let bad : ⊥ = cc in bad
+answers_no_write number answer.NoMemory is = let bad : ⊥ = cc in bad
+answers_no_write number answer.Unwritten is = let bad : ⊥ = cc in bad
+
+answers_own : (number : ℕ) (fault : AnswerFault) → IsRunStop (answer_stop number fault)
+answers_own number (answer.Line fault) = tt
+answers_own number answer.JournalFull = tt
+answers_own number answer.NoMemory = tt
+answers_own number answer.Unwritten = tt
+
 -- an answer isn't out whole
-pub answer_short : (next : Option (List ℕ)) {from : Execution} {old left before out short : Option (List ℕ)}
-    {execution now : Execution} {command : Command} {stop : Stop} →
-    HasAnswered from old left before out execution → GivesCommand left next command →
-    NoAnswer execution command now out short stop → stop ≡ Write →
+pub answer_short : {from : Execution} {old left before out short : Option (List ℕ)}
+    {execution now : Execution} {number : ℕ} {stop : Stop} (line : List ℕ) (next : Option (List ℕ)) →
+    HasAnswered from old left before out execution → ReadsLine left next line →
+    NoAnswer execution now line number out short stop → stop ≡ Write →
     FirstAnswered (AnsweredFrom from) old (AppendsProperPrefix before short)
-answer_short next {from} {old} {left} {before} {out} {short} {execution} {now} {command} {stop} has gives (NoAnswer.full told full keeps) is =
-    let bad : ⊥ = cc in absurd bad
-answer_short next {from} {old} {left} {before} {out} {short} {execution} {now} {command} {stop} has gives (NoAnswer.no_memory told keeps) is =
-    let bad : ⊥ = cc in absurd bad
-answer_short next {from} {old} {left} {before} {out} {short} {execution} {now} {command} {stop} has gives (NoAnswer.short told enters legal stops) is =
+answer_short {from} {old} {left} {before} {out} {short} {execution} {now} {number} {stop} line next has reads (NoAnswer.unanswered room fault none told keeps) is =
+    absurd (answers_no_write number fault (sym told ∙ is))
+answer_short {from} {old} {left} {before} {out} {short} {execution} {now} {number} {stop} line next has reads (NoAnswer.short text answered told stops) is =
+    let command = answered.command in
     let entry = entry_of execution command in
-    let same = ap (λ (c : Execution). c.setup) enters ∙ has.same in
+    let made = answered.entered.made in
+    let same = ap (λ (c : Execution). c.setup) made.entered ∙ has.same in
     first_answered from old next (has.made ++ entry ∷ []) (AppendsProperPrefix before short)
-    (read_one_more old left next has.made execution command has.read gives)
-    (legal_behind from now (has.made ++ entry ∷ []) same (grown_more command has enters) legal)
+    (read_one_more old left next has.made execution command has.read
+    (gives left next line command reads answered.asked))
+    (legal_behind from now (has.made ++ entry ∷ []) same (grown_more command has made.entered)
+    made.survives.legal)
     (subst (AppendsProperPrefix before short) (sym (lines_one_more has.made entry))
-    (short_behind before out short (lines_of_entries has.made) (entry_line entry) has.written stops))
+    (short_behind before out short (lines_of_entries has.made) (entry_line entry) has.written
+    (subst (AppendsProperPrefix out short) answered.entered.text_is stops)))
 
 -- ---- the header before it
 
@@ -549,47 +618,35 @@ pub short_headed : (first second third : Option (List ℕ)) → Appends first se
     Headed (AppendsProperPrefix second third) (AppendsProperPrefix first third)
 short_headed first second third head text stops = short_behind first second third (header Second) text head stops
 
-pub no_command_write : {known : Option (List ℕ)} {number : ℕ} {stop : Stop} →
-    NoCommand known number stop → stop ≡ Write → ⊥
-no_command_write {known} {number} {stop} (NoCommand.faulty fault told line) is = let bad : ⊥ = cc in bad
-no_command_write {known} {number} {stop} (NoCommand.read told) is = let bad : ⊥ = cc in bad
-no_command_write {known} {number} {stop} (NoCommand.no_memory told) is = let bad : ⊥ = cc in bad
+pub no_line_write : {known : Option (List ℕ)} {number : ℕ} {stop : Stop} →
+    NoLine known number stop → stop ≡ Write → ⊥
+no_line_write {known} {number} {stop} (NoLine.too_long told long) is = let bad : ⊥ = cc in bad
+no_line_write {known} {number} {stop} (NoLine.read told) is = let bad : ⊥ = cc in bad
+no_line_write {known} {number} {stop} (NoLine.no_memory told) is = let bad : ⊥ = cc in bad
 
-pub no_answer_read : {execution now : Execution} {command : Command} {out short : Option (List ℕ)}
-    {stop : Stop} → NoAnswer execution command now out short stop → stop ≡ Read → ⊥
-no_answer_read {execution} {now} {command} {out} {short} {stop} (NoAnswer.full told full keeps) is =
-    let bad : ⊥ = cc in bad
-no_answer_read {execution} {now} {command} {out} {short} {stop} (NoAnswer.no_memory told keeps) is =
-    let bad : ⊥ = cc in bad
-no_answer_read {execution} {now} {command} {out} {short} {stop} (NoAnswer.short told enters legal stops) is =
+pub no_line_own : {known : Option (List ℕ)} {number : ℕ} {stop : Stop} →
+    NoLine known number stop → IsRunStop stop
+no_line_own {known} {number} {stop} (NoLine.too_long told long) = subst IsRunStop (sym told) tt
+no_line_own {known} {number} {stop} (NoLine.read told) = subst IsRunStop (sym told) tt
+no_line_own {known} {number} {stop} (NoLine.no_memory told) = subst IsRunStop (sym told) tt
+
+pub no_answer_read : {execution now : Execution} {line : List ℕ} {number : ℕ}
+    {out short : Option (List ℕ)} {stop : Stop} →
+    NoAnswer execution now line number out short stop → stop ≡ Read → ⊥
+no_answer_read {execution} {now} {line} {number} {out} {short} {stop} (NoAnswer.unanswered room fault none told keeps) is =
+    answers_no_read number fault (sym told ∙ is)
+no_answer_read {execution} {now} {line} {number} {out} {short} {stop} (NoAnswer.short text answered told stops) is =
     let bad : ⊥ = cc in bad
 
-pub no_command_own : {known : Option (List ℕ)} {number : ℕ} {stop : Stop} →
-    NoCommand known number stop → IsRunStop stop
-no_command_own {known} {number} {stop} (NoCommand.faulty fault told line) = subst IsRunStop (sym told) tt
-no_command_own {known} {number} {stop} (NoCommand.read told) = subst IsRunStop (sym told) tt
-no_command_own {known} {number} {stop} (NoCommand.no_memory told) = subst IsRunStop (sym told) tt
-
-pub no_answer_own : {execution now : Execution} {command : Command} {out short : Option (List ℕ)}
-    {stop : Stop} → NoAnswer execution command now out short stop → IsRunStop stop
-no_answer_own {execution} {now} {command} {out} {short} {stop} (NoAnswer.full told full keeps) =
-    subst IsRunStop (sym told) tt
-no_answer_own {execution} {now} {command} {out} {short} {stop} (NoAnswer.no_memory told keeps) =
-    subst IsRunStop (sym told) tt
-no_answer_own {execution} {now} {command} {out} {short} {stop} (NoAnswer.short told enters legal stops) =
+pub no_answer_own : {execution now : Execution} {line : List ℕ} {number : ℕ}
+    {out short : Option (List ℕ)} {stop : Stop} →
+    NoAnswer execution now line number out short stop → IsRunStop stop
+no_answer_own {execution} {now} {line} {number} {out} {short} {stop} (NoAnswer.unanswered room fault none told keeps) =
+    subst IsRunStop (sym told) (answers_own number fault)
+no_answer_own {execution} {now} {line} {number} {out} {short} {stop} (NoAnswer.short text answered told stops) =
     subst IsRunStop (sym told) tt
 
 -- one result has one stop
 pub same_stop : (result : Result Bool Stop) (stop other : Stop) → result ≡ Err stop →
     result ≡ Err other → stop ≡ other
 same_stop result stop other is also = cc
-
--- a command that isn't entered has no answer
-pub no_entry : (execution : Execution) (command : Command) (now : Execution)
-    (out : Option (List ℕ)) (fault : Fault) →
-    (fault ≡ cluster_fault.JournalFull → execution.setup.limit ≤ length execution.journal) →
-    NoAnswer execution command now out out (entering_stop fault)
-no_entry execution command now out cluster_fault.JournalFull full =
-    NoAnswer.full refl (full refl) (Keeps-refl out)
-no_entry execution command now out cluster_fault.NoMemory full =
-    NoAnswer.no_memory refl (Keeps-refl out)

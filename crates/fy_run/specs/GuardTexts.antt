@@ -3,19 +3,22 @@ use Rattle.std.specs.Prelude.{◌≡◌, ◌≤◌, ◌+◌, ◌-◌, ℕ, List,
 use Rattle.std.specs.Io.KnownBytes.{Appends, Keeps}
 use Rattle.fy_lines.specs.Lines.{lines_of}
 use Rattle.fy_lines.specs.Prefixes.{AppendsProperPrefix}
-use Rattle.fy_lines.specs.Readings.{ReadsWithinLine, ReadsInsideLine}
+use Rattle.fy_lines.specs.Readings.{HasLongLine, ReadsWithinLine, ReadsInsideLine}
 use Rattle.fy_acts.specs.declared.entry.Entry.{Entry}
 use Rattle.fy_spelling.specs.Command.{LineOf}
 use Rattle.fy_spelling.specs.declared.command.Command.{Command}
 use Rattle.fy_spelling.specs.declared.command.LineFault.{LineFault}
+use Rattle.fy_spelling.specs.declared.command.LineFault.TheVariants.{TooLong}
 use Rattle.fy_spelling.specs.declared.command.TheConstants.{MOST_LINE_BYTES}
-use Rattle.fy_audit.specs.AuditText.{entry_line}
 use Rattle.fy_audit.specs.Script.{AreCommands}
 use Rattle.fy_audit.specs.declared.script.ScriptFault.TheVariants.{Line}
 use Rattle.fy_cluster.specs.Setup.{Setup}
 use Rattle.fy_cluster.specs.Replies.{Legal}
-use Rattle.fy_cluster.specs.Execution.{Execution, next_entry, entered}
+use Rattle.fy_cluster.specs.Execution.{Execution}
 use Rattle.fy_cluster.specs.Survival.{by_and_act}
+use Rattle.fy_answers.specs.Answers.{HasNoAnswer, IsAnswered}
+use Rattle.fy_answers.specs.declared.fault.AnswerFault.{AnswerFault}
+use Rattle.fy_answers.specs.declared.fault.AnswerFault.TheVariants as answer
 use Rattle.fy_run.specs.RunTexts.{asked, lines_of_entries, IsAuditOf}
 use Rattle.fy_streams.specs.declared.stop.Stop.{Stop}
 use Rattle.fy_streams.specs.declared.stop.Stop.TheVariants.{Script, JournalFull, Read, Write, NoMemory}
@@ -144,27 +147,25 @@ AppendsAtLeast old new text = (more : List ℕ) × Appends old new (text ++ more
 
 -- ---- a line at a time
 
--- the next line is the command, and no byte behind it was read
-abbrev pub GivesCommand : Option (List ℕ) → Option (List ℕ) → Command → Type 0
-GivesCommand old new command =
-    IfSome old (λ bytes. (line : List ℕ) × (rest : List ℕ) × (new ≡ Some rest)
-    × (lines_of bytes ≡ line ∷ lines_of rest) × LineOf line (Ok command))
+-- why a guard stops at a line, which has this number, that has no answer
+abbrev pub answer_stop : ℕ → AnswerFault → Stop
+answer_stop number (answer.Line fault) = Script (Line number fault)
+answer_stop number answer.JournalFull = JournalFull
+answer_stop number answer.NoMemory = NoMemory
+answer_stop number answer.Unwritten = NoMemory
 
--- the next line, which has this number, is no command; or it couldn't be had
-pub data NoCommand (known : Option (List ℕ)) (number : ℕ) (stop : Stop) : Type 0 where
-  faulty : (fault : LineFault) → stop ≡ Script (Line number fault) →
-      IfSome known (λ bytes. (line : List ℕ) × (more : List (List ℕ))
-      × (lines_of bytes ≡ line ∷ more) × LineOf line (Err fault)) → NoCommand known number stop
-  read : stop ≡ Read → NoCommand known number stop
-  no_memory : stop ≡ NoMemory → NoCommand known number stop
+-- the next line, which has this number, is too long, or couldn't be had
+pub data NoLine (known : Option (List ℕ)) (number : ℕ) (stop : Stop) : Type 0 where
+  too_long : stop ≡ Script (Line number TooLong) → HasLongLine known MOST_LINE_BYTES →
+      NoLine known number stop
+  read : stop ≡ Read → NoLine known number stop
+  no_memory : stop ≡ NoMemory → NoLine known number stop
 
--- the command has no answer: its entry is out in part, or nothing of it is
-pub data NoAnswer (execution : Execution) (command : Command) (now : Execution)
-    (old new : Option (List ℕ)) (stop : Stop) : Type 0 where
-  full : stop ≡ JournalFull → execution.setup.limit ≤ length execution.journal → Keeps old new →
-      NoAnswer execution command now old new stop
-  no_memory : stop ≡ NoMemory → Keeps old new → NoAnswer execution command now old new stop
-  short : stop ≡ Write → now ≡ entered execution command.by command.act →
-      Legal now.setup now.journal →
-      AppendsProperPrefix old new (entry_line (next_entry execution command.by command.act)) →
-      NoAnswer execution command now old new stop
+-- a line, which has this number, has no answer, and nothing is out; or its answer is out in part
+pub data NoAnswer (old new : Execution) (line : List ℕ) (number : ℕ) (before after : Option (List ℕ))
+    (stop : Stop) : Type 0 where
+  unanswered : (room : ℕ) → (fault : AnswerFault) → HasNoAnswer old new line room fault →
+      stop ≡ answer_stop number fault → Keeps before after →
+      NoAnswer old new line number before after stop
+  short : (text : List ℕ) → IsAnswered old new line text → stop ≡ Write →
+      AppendsProperPrefix before after text → NoAnswer old new line number before after stop

@@ -1,25 +1,21 @@
 //! The engine behind `faultyard guard`: a line of a script in, and its entry out before the next
 //! line is asked for.
-ghost use Rattle.std.specs.Prelude.{◌≡◌, ◌≤◌, ◌+◌, ◌⊎◌, length, true, Ok, Err, IfOk, IfErr, OnOk, IfSome, IfNone};
+ghost use Rattle.std.specs.Prelude.{◌≡◌, ◌⊎◌, ℕ, List, true, false, Ok, Err, IfOk, IfErr, OnOk};
 ghost use Rattle.std.specs.Io.KnownBytes.{Appends, IsAtEnd};
 ghost use Rattle.fy_lines.specs.Prefixes.{AppendsProperPrefix};
-ghost use Rattle.fy_lines.specs.Readings.{ReadsWithinLine, ReadsInsideLine};
+ghost use Rattle.fy_lines.specs.Readings.{ReadsLine, ReadsWithinLine, ReadsInsideLine};
 ghost use Rattle.fy_spelling.specs.declared.command.TheConstants.{MOST_LINE_BYTES};
-ghost use Rattle.fy_audit.specs.AuditText.{entry_line};
 ghost use Rattle.fy_audit.specs.declared.script.ScriptFault.TheVariants.{Line};
-ghost use Rattle.fy_cluster.specs.Execution.{next_entry, entered};
-ghost use Rattle.fy_cluster.specs.Replies.{Legal};
-ghost use Rattle.fy_run.specs.GuardTexts.{AllAnswered, AnsweredBefore, FirstAnswered, AnsweredInTurn, AnsweredBeforeCut, AnsweredFrom, room_in, AnswersAll, AnswersBefore, AnswersSome, AnswersInTurn, AnswersBeforeCut, ReadNothing, AppendsAtLeast, GivesCommand, NoCommand, NoAnswer};
+ghost use Rattle.fy_answers.specs.Answers.{IsAnswered};
+ghost use Rattle.fy_run.specs.GuardTexts.{AllAnswered, AnsweredBefore, FirstAnswered, AnsweredInTurn, AnsweredBeforeCut, AnsweredFrom, room_in, AnswersAll, AnswersBefore, AnswersSome, AnswersInTurn, AnswersBeforeCut, ReadNothing, AppendsAtLeast, NoLine, NoAnswer, answer_stop};
 ghost use Rattle.fy_run.specs.RunTexts.{IfRunRefusal};
-ghost use Rattle.fy_streams.specs.Stops.{command_stop, IsRunStop};
+ghost use Rattle.fy_streams.specs.Stops.{IsRunStop};
 
-use fy_audit::{
-    Command, LineFault, MOST_LINE_BYTES, ScriptFault, Version, header_text, push_entry_line,
-};
+use fy_answers::{AnswerFault, answer};
+use fy_audit::{LineFault, MOST_LINE_BYTES, ScriptFault, Version, header_text};
 use fy_cluster::{ClusterState, Config};
-use fy_lines::{InputFault, next_line, write_bytes};
-use fy_spelling::{CommandFault, read_command};
-use fy_streams::Stop;
+use fy_lines::{next_line, write_bytes};
+use fy_streams::{Stop, input_stop};
 use std::alloc::Global;
 use std::io::{BufRead, Write};
 
@@ -32,72 +28,61 @@ fn line_stop(number: u32, fault: LineFault) -> Stop
     }
 }
 
-/// The stop for a line of which no command is read.
-fn command_stop(number: u32, fault: CommandFault) -> Stop
-    ensures { result ≡ command_stop number fault }
+/// The stop for a line that has no answer.
+fn answer_stop(number: u32, fault: AnswerFault) -> Stop
+    ensures { result ≡ answer_stop number fault }
 {
     match fault {
-        CommandFault::Line(fault) => line_stop(number, fault),
-        CommandFault::NoMemory => Stop::NoMemory,
+        AnswerFault::Line(fault) => line_stop(number, fault),
+        AnswerFault::JournalFull => Stop::JournalFull,
+        AnswerFault::NoMemory | AnswerFault::Unwritten => Stop::NoMemory,
     }
 }
 
-/// The command of the next line, which has this number; none where the reader is at its end. The
-/// buffer is for the line.
-fn next_command<R: BufRead>(
-    alloc: Global,
-    reader: &mut R,
-    line: &mut Vec<u8>,
-    number: u32,
-) -> Result<Option<Command>, Stop>
-    ensures some { IfOk result (λ next. IfSome next
-        (GivesCommand (R.remaining reader.old) (R.remaining reader.new))) }
-    ensures none { IfOk result (λ next. IfNone next (IsAtEnd (R.remaining reader.old))) }
-    ensures err { IfErr result (NoCommand (R.remaining reader.old) number) }
+/// Whether there is a next line, which has this number. It goes into the buffer, in place of what
+/// that has.
+fn read_line<R: BufRead>(reader: &mut R, line: &mut Vec<u8>, number: u32) -> Result<bool, Stop>
+    ensures line { result ≡ Ok true →
+        ReadsLine (R.remaining reader.old) (R.remaining reader.new) line.new.items }
+    ensures end { result ≡ Ok false → IsAtEnd (R.remaining reader.old) }
+    ensures err { IfErr result (NoLine (R.remaining reader.old) number) }
     ensures cut { IfErr result (λ stop. stop ≡ Stop.Read →
         ReadsInsideLine (R.remaining reader.old) (R.remaining reader.new) MOST_LINE_BYTES) }
     ensures no_further { ReadsWithinLine (R.remaining reader.old) (R.remaining reader.new) }
 {
-    // These faults are of a line, so no `From` says them: it has no number.
     match next_line(reader, line, MOST_LINE_BYTES) {
-        Ok(true) => {}
-        Ok(false) => return Ok(None),
-        Err(InputFault::TooLong) => return Err(line_stop(number, LineFault::TooLong)),
-        Err(InputFault::Reader) => return Err(Stop::Read),
-        Err(InputFault::NoMemory) => return Err(Stop::NoMemory),
-    }
-    match read_command(alloc, line) {
-        Ok(command) => Ok(Some(command)),
-        Err(fault) => Err(command_stop(number, fault)),
+        Ok(read) => Ok(read),
+        Err(fault) => Err(input_stop(fault, line_stop(number, LineFault::TooLong))),
     }
 }
 
-/// Applies a command and writes its entry, with one call of `write` where the writer takes it
-/// whole.
+/// Answers a line, which has this number, and writes the answer with one call of `write` where the
+/// writer takes it whole. The buffer is for the answer.
 ///
 /// # Errors
 ///
-/// `JournalFull` where the journal has as many entries as it may have, and `NoMemory`: nothing is
-/// written then. `Write` where the writer fails or takes no byte: a front of the line is out, and
-/// never all of it.
-fn answer<W: Write>(
+/// `Script` for a line that is no command, `JournalFull` where the journal has as many entries as
+/// it may have, and `NoMemory`: nothing is written then. `Write` where the writer fails or takes no
+/// byte: a front of the answer is out, and never all of it.
+fn answer_line<W: Write>(
+    alloc: Global,
     cluster: &mut ClusterState,
-    command: Command,
+    line: &[u8],
+    number: u32,
     text: &mut Vec<u8>,
     writer: &mut W,
 ) -> Result<(), Stop>
-    ensures entered { OnOk result (cluster.new ≡ entered cluster.old command.by command.act) }
-    ensures room { OnOk result (length cluster.old.journal + 1 ≤ cluster.old.setup.limit) }
-    ensures legal { OnOk result (Legal cluster.new.setup cluster.new.journal) }
-    ensures out { OnOk result (Appends (W.contents writer.old) (W.contents writer.new)
-        (entry_line (next_entry cluster.old command.by command.act))) }
-    ensures err { IfErr result (NoAnswer cluster.old command cluster.new
+    ensures answered { OnOk result ((text : List ℕ)
+        × IsAnswered cluster.old cluster.new line.now text
+        × Appends (W.contents writer.old) (W.contents writer.new) text) }
+    ensures err { IfErr result (NoAnswer cluster.old cluster.new line.now number
         (W.contents writer.old) (W.contents writer.new)) }
 {
-    let (by, act) = command.into_parts();
-    let entry = cluster.enter(by, act)?;
-    text.clear();
-    push_entry_line(text, &entry)?;
+    // No `From` says the stop, since a fault doesn't have the line's number.
+    match answer(alloc, cluster, line, text) {
+        Ok(()) => {}
+        Err(fault) => return Err(answer_stop(number, fault)),
+    }
     write_bytes(writer, text)?;
     Ok(())
 }
@@ -144,10 +129,10 @@ pub fn answer_lines<R: BufRead, W: Write>(
     let (mut line, mut text) = (Vec::new(alloc), Vec::new(alloc));
     let mut number = 1;
     'lines: loop {
-        let Some(command) = next_command(alloc, reader, &mut line, number)? else {
+        if !read_line(reader, &mut line, number)? {
             return Ok(true);
-        };
-        answer(&mut cluster, command, &mut text, writer)?;
+        }
+        answer_line(alloc, &mut cluster, &line, number, &mut text, writer)?;
         number += 1;
     }
 }

@@ -14,8 +14,8 @@ ghost use Rattle.fy_streams.specs.Stops.{IsRunStop};
 
 use fy_audit::{Command, MOST_SCRIPT_BYTES, ScriptFault, Version, read_script};
 use fy_cluster::{ClusterState, Config};
-use fy_lines::{InputFault, laws, read_limited};
-use fy_streams::{AuditBuffer, Stop};
+use fy_lines::laws;
+use fy_streams::{AuditBuffer, Stop, load_bytes};
 use std::alloc::Global;
 use std::io::{Read, Write};
 
@@ -35,8 +35,10 @@ fn answer_all<W: Write>(
 ) -> Result<(), Stop>
     requires { length cluster.old.journal + length commands.items ≤ cluster.old.setup.limit }
     ensures ok { OnOk result (FlushesFront (W.contents writer.old) (W.contents writer.new)
-        (buffer.old ++ lines_of_entries (made_by cluster.old (map asked commands.items))) buffer.new) }
-    ensures short { OnErr result (AppendsProperPrefix (W.contents writer.old) (W.contents writer.new)
+        (buffer.old ++ lines_of_entries (made_by cluster.old (map asked commands.items)))
+        buffer.new) }
+    ensures short { OnErr result
+        (AppendsProperPrefix (W.contents writer.old) (W.contents writer.new)
         (buffer.old ++ lines_of_entries (made_by cluster.old (map asked commands.items)))) }
     ensures fault { IfErr result IsOutputStop }
 {
@@ -66,7 +68,8 @@ fn write_answers<W: Write>(
     requires { length commands.items ≤ config.now.limit }
     ensures ok { OnOk result (Appends (W.contents writer.old) (W.contents writer.new)
         (audit_text Second (made_by (opened config.now) (map asked commands.items)))) }
-    ensures short { OnErr result (AppendsProperPrefix (W.contents writer.old) (W.contents writer.new)
+    ensures short { OnErr result
+        (AppendsProperPrefix (W.contents writer.old) (W.contents writer.new)
         (audit_text Second (made_by (opened config.now) (map asked commands.items)))) }
     ensures fault { IfErr result IsOutputStop }
 {
@@ -93,17 +96,10 @@ fn load_script<R: Read>(alloc: Global, reader: &mut R) -> Result<Vec<Command>, S
     ensures no_further { ReadsAtMost (R.remaining reader.old) (R.remaining reader.new)
         (MOST_SCRIPT_BYTES + 1) }
 {
-    // What is too long differs by what is read, so no `From` says it.
-    let bytes = match read_limited(alloc, reader, MOST_SCRIPT_BYTES) {
-        Ok(bytes) => bytes,
-        Err(InputFault::TooLong) => {
-            return Err(Stop::Script {
-                fault: ScriptFault::TooLong,
-            });
-        }
-        Err(InputFault::Reader) => return Err(Stop::Read),
-        Err(InputFault::NoMemory) => return Err(Stop::NoMemory),
+    let too_long = Stop::Script {
+        fault: ScriptFault::TooLong,
     };
+    let bytes = load_bytes(alloc, reader, MOST_SCRIPT_BYTES, too_long)?;
     Ok(read_script(alloc, &bytes)?)
 }
 

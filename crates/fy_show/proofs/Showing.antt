@@ -1,17 +1,14 @@
 -- what is known of the document that show writes
-use Rattle.std.proofs.Common.{◌≡◌, ◌∙◌, ℕ, List, Option, Some, None, Result, Ok, Err, Bool, true, false, length, take, refl, ap, subst, sym, arith}
-use Rattle.std.specs.Prelude.{IfSome, OnOk, is_none, is_some, not, unwrap_or}
+use Rattle.std.proofs.Common.{◌≡◌, ◌∙◌, ℕ, List, Option, Some, None, Result, Ok, Err, Bool, true, false, refl, ap, subst, sym}
+use Rattle.std.specs.Prelude.{IfSome, OnOk, is_none, is_some, not}
 use Rattle.std.proofs.lemmas.Bool.{true≢false}
-use Rattle.std.proofs.lemmas.List.{take_all}
-use Rattle.fy_acts.specs.declared.entry.Entry.{Entry}
 use Rattle.fy_acts.specs.declared.version.Version.{Version}
 use Rattle.fy_cluster.specs.Setup.{Setup}
-use Rattle.fy_cluster.specs.Execution.{Execution}
-use Rattle.fy_replay.specs.Replayed.{HasFirstBad}
 use Rattle.fy_check.specs.Checked.{IsChecked}
 use Rattle.fy_check.specs.Inputs.{IsReadInto}
 use Rattle.fy_svg.specs.Documents.{IsDocument}
 use Rattle.fy_picture.specs.Recording.{HasRecorded, Recording, begun}
+use Rattle.fy_picture.proofs.Recorders.{first_of}
 use Rattle.fy_show.specs.declared.show.Drawn.{Drawn}
 use Rattle.fy_show.specs.Shows.{HasDocument, IsDrawn, IsDrawnEvenly}
 
@@ -20,13 +17,6 @@ pub all_on_ok : {T E : Type 0} (result : Result T E) (P Q R S : Type 0) → (P �
     → OnOk result P → OnOk result Q → OnOk result R → OnOk result S
 all_on_ok (Ok done) P Q R S gives p q r = gives p q r
 all_on_ok (Err fault) P Q R S gives p q r = tt
-
--- while no entry is bad, the next one's place is how many were recorded
-pub next_place : (setup : Setup) (entries : List Entry) (recording : Recording) → HasRecorded setup entries recording → recording.first_bad ≡ None → length entries ≡ length recording.execution.journal
-next_place setup entries recording has none =
-    sym (ap (λ (x : Execution). length x.journal) has.execution
-    ∙ ap (λ o. length (take (unwrap_or o (length entries)) entries)) none
-    ∙ ap length (take_all (length entries) entries (omega arith)))
 
 -- an audit that was read into a drawing, which began so, was drawn
 pub drawn_of : (setup : Setup) (bytes : List ℕ) (version : Version) (laid : Option (List ℕ)) (count : ℕ) (start now : Recording)
@@ -37,9 +27,11 @@ pub drawn_of : (setup : Setup) (bytes : List ℕ) (version : Version) (laid : Op
 drawn_of setup bytes version laid count start now is read = record {
   audit = read.audit;
   read = read.read;
-  version = read.holds.1 ∙ ap (λ (r : Recording). r.version) is ∙ read.version_is;
-  those = subst (λ s. HasRecorded s read.audit.entries now) (ap (λ (r : Recording). r.execution.setup) is) read.holds.0;
-  laid_is = read.holds.2 ∙ ap (λ (r : Recording). r.columns.laid) is;
+  drawn = record {
+    version = read.holds.1 ∙ ap (λ (r : Recording). r.version) is ∙ read.version_is;
+    those = subst (λ s. HasRecorded s read.audit.entries now) (ap (λ (r : Recording). r.execution.setup) is) read.holds.0;
+    laid_is = read.holds.2 ∙ ap (λ (r : Recording). r.columns.laid) is;
+  };
 }
 
 -- so was one in even columns, where its bytes are known
@@ -70,7 +62,7 @@ checked_known setup (Some bytes) drawn legal is holds = (
       audit = holds.is.audit;
       read = holds.is.read;
       count = holds.count;
-      first = subst (λ v. HasFirstBad v setup holds.is.audit.entries drawn.drawing.first_bad) holds.is.version holds.is.those.first;
+      first = first_of holds.is.audit.version setup holds.is.audit.entries drawn.drawing holds.is.drawn.those holds.is.drawn.version;
     };
     legal_is = is;
   },

@@ -1,10 +1,9 @@
 -- what is known of the document of an audit and its events
-use Rattle.std.proofs.Common.{◌≡◌, ◌∙◌, ℕ, List, [], length, Option, Some, None, Result, Ok, Err, Bool, true, false, refl, ap, sym, subst, arith}
+use Rattle.std.proofs.Common.{◌≡◌, ◌∙◌, ℕ, List, [], length, Option, Some, None, Ok, Err, Bool, true, false, refl, ap, sym, subst, arith}
 use Rattle.std.specs.Prelude.{IfSome, is_none, is_some, not}
 use Rattle.std.proofs.lemmas.Bool.{false≢true}
 use Rattle.std.proofs.KnownBytes.{Consumes-nil}
 use Rattle.fy_lines.specs.Readings.{ReadsAtMost}
-use Rattle.fy_acts.specs.Journal.{Log}
 use Rattle.fy_acts.specs.declared.version.Version.{Version}
 use Rattle.fy_acts.specs.declared.entry.Entry.{Entry}
 use Rattle.fy_audit.specs.Audit.{Audit, AuditOf, audit_of}
@@ -18,12 +17,14 @@ use Rattle.fy_check.specs.CheckTexts.{IsFound}
 use Rattle.fy_check.specs.declared.check.Finding.{Finding}
 use Rattle.fy_streams.specs.declared.stop.Stop.{Stop}
 use Rattle.fy_streams.specs.declared.stop.Stop.TheVariants.{JudgeTooLong, JudgeLine, Config, Script, JournalFull, Audit as AuditStop, Events, SwarmClose, Read, Write, NoMemory}
-use Rattle.fy_streams.specs.Stops.{IfAuditFault, IfEventsFault}
+use Rattle.fy_events.specs.declared.TheConstants.{MOST_EVENTS_BYTES}
+use Rattle.fy_events.specs.declared.events.EventsFault.TheVariants.{TooLong}
+use Rattle.fy_streams.specs.Stops.{IfAuditFault, IfEventsFault, IsTimesStop, IsUnread}
 use Rattle.fy_picture.specs.Recording.{Recording}
 use Rattle.fy_svg.specs.Documents.{IsDocument}
 use Rattle.fy_check.specs.Inputs.{IsReadInto}
 use Rattle.fy_show.specs.declared.held.Held.{Held}
-use Rattle.fy_show.specs.Shows.{AreRefused, HasDrawn, HasDrawnByTime, HasTimedDocument, IsDrawnByTime, IsHeld, JournalsHaveFindings}
+use Rattle.fy_show.specs.Shows.{AreRefused, HasDrawnByTime, HasTimedDocument, IsDrawnByTime, IsHeld, JournalsHaveFindings}
 
 -- what follows of a fault of the events, whichever it is
 pub map_events : (stop : Stop) (P Q : EventsFault → Type 0) →
@@ -65,13 +66,6 @@ pub holds_known : (known : Option (List ℕ)) (read : List ℕ) (P : List ℕ �
 holds_known None read P same holds = tt
 holds_known (Some bytes) read P same holds = subst P same holds
 
--- the drawing of a journal says which entry is the first bad one
-pub first_of : (setup : Setup) (journal : Log) (ends : List ℕ) (drawing : Recording) →
-    HasDrawn setup journal ends drawing →
-    HasFirstBad journal.version setup journal.entries drawing.first_bad
-first_of setup journal ends drawing drawn =
-    subst (λ v. HasFirstBad v setup journal.entries drawing.first_bad) drawn.version drawn.those.first
-
 -- what is first bad in the journal of an audit was found of it
 found_of : (setup : Setup) (bytes : List ℕ) (held : Held) (finding : Finding) → IsHeld bytes held →
     finding.count ≡ held.count →
@@ -82,19 +76,10 @@ found_of setup bytes held finding is same first =
 
 drawn_of : (setup : Setup) (bytes : List ℕ) (held : Held) (finding : Finding) (events : List Event)
     (drawing : Recording) → IsHeld bytes held →
-    HasDrawnByTime setup held.journal finding events drawing →
+    HasDrawnByTime setup (audit_of held.journal) finding events drawing →
     IsDrawnByTime setup bytes finding events drawing
-drawn_of setup bytes held finding events drawing is drawn = record {
-  columns = drawn.columns;
-  are_columns = drawn.are_columns;
-  drawn = record {
-    audit = audit_of held.journal;
-    read = is.read;
-    version = drawn.drawn.version;
-    those = drawn.drawn.those;
-    laid_is = drawn.drawn.laid;
-  };
-}
+drawn_of setup bytes held finding events drawing is drawn =
+    record { audit = audit_of held.journal; read = is.read; drawn = drawn }
 
 -- an audit that is held, and the events of its entries, have a document
 pub has_timed_document : (setup : Setup) (audit events : Option (List ℕ)) (held : Held)
@@ -104,7 +89,7 @@ pub has_timed_document : (setup : Setup) (audit events : Option (List ℕ)) (hel
     (finding : Finding) → finding.count ≡ held.count →
     HasFirstBad held.journal.version setup held.journal.entries finding.first_bad →
     legal ≡ is_none finding.first_bad → (drawing : Recording) →
-    HasDrawnByTime setup held.journal finding told drawing →
+    HasDrawnByTime setup (audit_of held.journal) finding told drawing →
     (text : List ℕ) → IsDocument drawing text → P text → HasTimedDocument setup audit events legal P
 has_timed_document setup None events held told legal P is are finding same first legal_is drawing drawn text of holds = tt
 has_timed_document setup (Some bytes) None held told legal P is are finding same first legal_is drawing drawn text of holds = tt
@@ -154,3 +139,41 @@ is_held (Some bytes) read begun held is has =
       read = subst (λ es. AuditOf bytes (Ok (let a : Audit = record { version = held.journal.version; entries = es } in a))) (sym has.holds.0) moved;
       count = has.count_is ∙ sym (ap (λ (es : List Entry). length es) has.holds.0);
     }
+
+-- ---- a file of events that can't be read whole
+
+-- its fault is told
+pub unread_told : {known left : Option (List ℕ)} {stop : Stop} →
+    IsUnread known left MOST_EVENTS_BYTES (Events TooLong) stop →
+    IfEventsFault stop (λ fault. (count : ℕ) → IfSome known (λ lines. EventsOf count lines (Err fault)))
+unread_told {known} {left} {stop} (IsUnread.long is more) =
+    subst (λ s. IfEventsFault s (λ fault. (count : ℕ) → IfSome known (λ lines. EventsOf count lines (Err fault))))
+    (sym is) (λ count. more)
+unread_told {known} {left} {stop} (IsUnread.read is within) =
+    subst (λ s. IfEventsFault s (λ fault. (count : ℕ) → IfSome known (λ lines. EventsOf count lines (Err fault))))
+    (sym is) tt
+unread_told {known} {left} {stop} (IsUnread.no_memory is) =
+    subst (λ s. IfEventsFault s (λ fault. (count : ℕ) → IfSome known (λ lines. EventsOf count lines (Err fault))))
+    (sym is) tt
+
+-- it is none of an audit, but a stop of show's own, and not that of a writer
+pub unread_no_audit : {known left : Option (List ℕ)} {stop : Stop} →
+    IsUnread known left MOST_EVENTS_BYTES (Events TooLong) stop → IfAuditFault stop (λ _. ⊥)
+unread_no_audit {known} {left} {stop} (IsUnread.long is more) =
+    subst (λ s. IfAuditFault s (λ _. ⊥)) (sym is) tt
+unread_no_audit {known} {left} {stop} (IsUnread.read is within) =
+    subst (λ s. IfAuditFault s (λ _. ⊥)) (sym is) tt
+unread_no_audit {known} {left} {stop} (IsUnread.no_memory is) =
+    subst (λ s. IfAuditFault s (λ _. ⊥)) (sym is) tt
+
+pub unread_own : {known left : Option (List ℕ)} {stop : Stop} →
+    IsUnread known left MOST_EVENTS_BYTES (Events TooLong) stop → IsTimesStop stop
+unread_own {known} {left} {stop} (IsUnread.long is more) = subst IsTimesStop (sym is) tt
+unread_own {known} {left} {stop} (IsUnread.read is within) = subst IsTimesStop (sym is) tt
+unread_own {known} {left} {stop} (IsUnread.no_memory is) = subst IsTimesStop (sym is) tt
+
+pub unread_unwritten : {known left : Option (List ℕ)} {stop : Stop} →
+    IsUnread known left MOST_EVENTS_BYTES (Events TooLong) stop → stop ≡ Write → ⊥
+unread_unwritten {known} {left} {stop} (IsUnread.long is more) write = let bad : ⊥ = cc in bad
+unread_unwritten {known} {left} {stop} (IsUnread.read is within) write = let bad : ⊥ = cc in bad
+unread_unwritten {known} {left} {stop} (IsUnread.no_memory is) write = let bad : ⊥ = cc in bad

@@ -1,6 +1,5 @@
 -- what show writes of an audit
 use Rattle.std.specs.Prelude.{◌≡◌, ℕ, Bool, List, Option, Some, None, IfSome, Ok, Err, is_none, length, unwrap_or}
-use Rattle.fy_acts.specs.Journal.{Log}
 use Rattle.fy_acts.specs.declared.entry.Entry.{Entry}
 use Rattle.fy_acts.specs.declared.version.Version.{Version}
 use Rattle.fy_audit.specs.Audit.{Audit, AuditOf, audit_of}
@@ -24,24 +23,38 @@ use Rattle.fy_show.specs.declared.show.Drawn.{Drawn}
 abbrev pub good_of : Finding → ℕ
 good_of finding = unwrap_or finding.first_bad finding.count
 
+-- the drawing is that of an audit's entries before the first bad one, or of all, in columns that end
+-- as listed, or else are even
+pub record HasDrawn (setup : Setup) (audit : Audit) (laid : Option (List ℕ)) (drawing : Recording) :
+    Type 0 where
+  pub version : drawing.version ≡ audit.version
+  pub those : HasRecorded setup audit.entries drawing
+  pub laid_is : drawing.columns.laid ≡ laid
+
+-- the drawing is that of an audit's entries before the first bad one, in the columns that the events
+-- of these entries give
+pub record HasDrawnByTime (setup : Setup) (audit : Audit) (finding : Finding) (events : List Event)
+    (drawing : Recording) : Type 0 where
+  pub columns : TimeColumns
+  pub are_columns : AreTimeColumns (events_before events (good_of finding)) (good_of finding)
+      MOST_COLUMNS columns
+  pub drawn : HasDrawn setup audit (Some columns.ends.items) drawing
+
 -- the bytes are an audit, and the drawing is that of its entries before the first bad one, or of
 -- all, in columns that end as listed, or else are even
 pub record IsDrawn (setup : Setup) (bytes : List ℕ) (laid : Option (List ℕ)) (drawing : Recording) :
     Type 0 where
   pub audit : Audit
   pub read : AuditOf bytes (Ok audit)
-  pub version : drawing.version ≡ audit.version
-  pub those : HasRecorded setup audit.entries drawing
-  pub laid_is : drawing.columns.laid ≡ laid
+  pub drawn : HasDrawn setup audit laid drawing
 
 -- the bytes are an audit, and the drawing is that of its entries before the first bad one, in the
 -- columns that the events of these entries give
 pub record IsDrawnByTime (setup : Setup) (bytes : List ℕ) (finding : Finding) (events : List Event)
     (drawing : Recording) : Type 0 where
-  pub columns : TimeColumns
-  pub are_columns : AreTimeColumns (events_before events (good_of finding)) (good_of finding)
-      MOST_COLUMNS columns
-  pub drawn : IsDrawn setup bytes (Some columns.ends.items) drawing
+  pub audit : Audit
+  pub read : AuditOf bytes (Ok audit)
+  pub drawn : HasDrawnByTime setup audit finding events drawing
 
 -- an audit in even columns, and how many entries it has
 pub record IsDrawnEvenly (setup : Setup) (bytes : List ℕ) (drawn : Drawn) : Type 0 where
@@ -60,21 +73,6 @@ HasDocument setup known legal P =
 pub record IsHeld (bytes : List ℕ) (held : Held) : Type 0 where
   pub read : AuditOf bytes (Ok (audit_of held.journal))
   pub count : held.count ≡ length held.journal.entries
-
--- the entries of a journal were drawn up to the first bad one, in columns that end as listed
-pub record HasDrawn (setup : Setup) (journal : Log) (ends : List ℕ) (drawing : Recording) : Type 0
-  where
-    pub those : HasRecorded setup journal.entries drawing
-    pub version : drawing.version ≡ journal.version
-    pub laid : drawing.columns.laid ≡ Some ends
-
--- they were, in the columns that the events of the good ones give
-pub record HasDrawnByTime (setup : Setup) (journal : Log) (finding : Finding) (events : List Event)
-    (drawing : Recording) : Type 0 where
-  pub columns : TimeColumns
-  pub are_columns : AreTimeColumns (events_before events (good_of finding)) (good_of finding)
-      MOST_COLUMNS columns
-  pub drawn : HasDrawn setup journal columns.ends.items drawing
 
 -- each journal is legal under its version or has a first bad entry
 abbrev pub JournalsHaveFindings : Type 0

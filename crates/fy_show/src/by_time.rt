@@ -1,8 +1,9 @@
 //! An audit and the events of its run in, a picture by time out.
-ghost use Rattle.std.specs.Prelude.{◌≡◌, ◌≢◌, ◌⊎◌, ◌+◌, ℕ, Bool, None, IfOk, IfErr, IfSome, Ok, Err, is_none, string_bytes};
+ghost use Rattle.std.specs.Prelude.{◌≡◌, ◌≢◌, ◌⊎◌, ◌+◌, ℕ, Bool, Some, None, IfOk, IfErr, IfSome, Ok, Err, is_none, string_bytes};
 ghost use Rattle.std.specs.Io.KnownBytes.{Appends};
 ghost use Rattle.fy_lines.specs.Prefixes.{AppendsProperPrefix};
 ghost use Rattle.fy_lines.specs.Readings.{ReadsAtMost};
+ghost use Rattle.fy_audit.specs.Audit.{audit_of};
 ghost use Rattle.fy_audit.specs.declared.audit.TheConstants.{MOST_AUDIT_BYTES};
 ghost use Rattle.fy_events.specs.Events.{EventsOf, Rises};
 ghost use Rattle.fy_events.specs.declared.TheConstants.{MOST_EVENTS_BYTES};
@@ -22,9 +23,9 @@ use fy_cluster::Config;
 use fy_events::{
     Event, EventsFault, MOST_EVENTS_BYTES, TimeColumns, columns_by_time, events_before, read_events,
 };
-use fy_lines::{InputFault, read_limited, write_bytes};
+use fy_lines::write_bytes;
 use fy_picture::MOST_COLUMNS;
-use fy_streams::Stop;
+use fy_streams::{Stop, load_bytes};
 use fy_svg::Drawing;
 use std::alloc::{AllocError, Global};
 use std::io::{Read, Write};
@@ -43,15 +44,10 @@ fn load_lines<R: Read>(alloc: Global, reader: &mut R) -> Result<Vec<u8>, Stop>
     ensures no_further { ReadsAtMost (R.remaining reader.old) (R.remaining reader.new)
         (MOST_EVENTS_BYTES + 1) }
 {
-    // What is too long differs by what is read, so no `From` says it.
-    match read_limited(alloc, reader, MOST_EVENTS_BYTES) {
-        Ok(bytes) => Ok(bytes),
-        Err(InputFault::TooLong) => Err(Stop::Events {
-            fault: EventsFault::TooLong,
-        }),
-        Err(InputFault::Reader) => Err(Stop::Read),
-        Err(InputFault::NoMemory) => Err(Stop::NoMemory),
-    }
+    let too_long = Stop::Events {
+        fault: EventsFault::TooLong,
+    };
+    load_bytes(alloc, reader, MOST_EVENTS_BYTES, too_long)
 }
 
 /// The events of a file, of so many entries.
@@ -98,14 +94,11 @@ fn draw_in(
     columns: TimeColumns,
     events: Vec<Event>,
 ) -> Result<Drawing, AllocError>
-    ensures { IfOk result (HasDrawn config.now journal.now columns.ends.items) }
+    ensures { IfOk result (HasDrawn config.now (audit_of journal.now) (Some columns.ends.items)) }
 {
-    journal.invariant();
     let version = journal.version();
     let mut drawing = Drawing::begin_by_time(alloc, config, version, columns, events)?;
-    for entry in journal.entries() {
-        drawing.enter(entry.try_copy(alloc)?)?;
-    }
+    drawing.enter_all(journal)?;
     Ok(drawing)
 }
 
@@ -119,7 +112,7 @@ fn draw(
     events: &[Event],
 ) -> Result<Drawing, AllocError>
     requires { Rises finding.count None events.now }
-    ensures { IfOk result (HasDrawnByTime config.now journal.now finding events.now) }
+    ensures { IfOk result (HasDrawnByTime config.now (audit_of journal.now) finding events.now) }
 {
     let good = finding.first_bad.unwrap_or(finding.count);
     let drawn = events_before(events, good);
@@ -147,7 +140,7 @@ fn draw_found(
     ensures first { IfOk result (λ found. HasFirstBad held.now.journal.version config.now
         held.now.journal.entries found.0.first_bad) }
     ensures drawn { IfOk result (λ found.
-        HasDrawnByTime config.now held.now.journal found.0 events.now found.1) }
+        HasDrawnByTime config.now (audit_of held.now.journal) found.0 events.now found.1) }
 {
     let count = held.count;
     let all_good = Finding {
@@ -178,7 +171,7 @@ fn document(
     ensures { IfOk result (λ document. (finding : Finding) × (finding.count ≡ held.now.count)
         × HasFirstBad held.now.journal.version config.now held.now.journal.entries finding.first_bad
         × (document.0 ≡ is_none finding.first_bad) × (drawing : Recording)
-        × HasDrawnByTime config.now held.now.journal finding events.now drawing
+        × HasDrawnByTime config.now (audit_of held.now.journal) finding events.now drawing
         × IsDocument drawing (string_bytes document.1)) }
 {
     let (finding, drawing) = draw_found(alloc, config, held, events)?;

@@ -1,9 +1,10 @@
 -- The fault lines and the exit statuses of a command that stops.
-use Rattle.std.specs.Prelude.{ℕ, List, ◌++◌, codes, decimal}
+use Rattle.std.specs.Prelude.{◌≡◌, ◌<◌, ℕ, List, ◌++◌, length, codes, decimal, Option, IfSome}
+use Rattle.fy_lines.specs.Readings.{ReadsAtMost}
+use Rattle.fy_lines.specs.declared.input.InputFault.{InputFault}
+use Rattle.fy_lines.specs.declared.input.InputFault.TheVariants as input
 use Rattle.fy_spelling.specs.declared.command.LineFault.{LineFault}
 use Rattle.fy_spelling.specs.declared.command.LineFault.TheVariants as line
-use Rattle.fy_spelling.specs.declared.command.CommandFault.{CommandFault}
-use Rattle.fy_spelling.specs.declared.command.CommandFault.TheVariants as command
 use Rattle.fy_audit.specs.declared.script.ScriptFault.{ScriptFault}
 use Rattle.fy_audit.specs.declared.script.ScriptFault.TheVariants as script
 use Rattle.fy_audit.specs.declared.audit.AuditLineFault.{AuditLineFault}
@@ -158,15 +159,24 @@ abbrev pub config_stop : ConfigFault → Stop
 config_stop config.NoMemory = NoMemory
 config_stop fault = Config fault
 
--- the stop for a line of a script of which no command is read, by the line's number
-abbrev pub command_stop : ℕ → CommandFault → Stop
-command_stop number (command.Line fault) = Script (script.Line number fault)
-command_stop number command.NoMemory = NoMemory
-
 -- the stop for a script that is refused
 abbrev pub script_stop : ScriptFault → Stop
 script_stop script.NoMemory = NoMemory
 script_stop fault = Script fault
+
+-- the stop for an input of which not all can be read, where one stands for too many bytes
+abbrev pub input_stop : Stop → InputFault → Stop
+input_stop too_long input.TooLong = too_long
+input_stop too_long input.Reader = Read
+input_stop too_long input.NoMemory = NoMemory
+
+-- not all bytes of a reader are had: they are more than so many, the reader failed before, or an
+-- allocation did
+pub data IsUnread (known left : Option (List ℕ)) (most : ℕ) (too_long stop : Stop) : Type 0 where
+  long : stop ≡ too_long → IfSome known (λ bytes. most < length bytes) →
+      IsUnread known left most too_long stop
+  read : stop ≡ Read → ReadsAtMost known left most → IsUnread known left most too_long stop
+  no_memory : stop ≡ NoMemory → IsUnread known left most too_long stop
 
 -- a fact for the fault of a cluster file; none for other stops
 abbrev pub IfConfigFault : Stop → (ConfigFault → Type 0) → Type 0

@@ -49,7 +49,8 @@ impl AuditBuffer {
     /// `OutputFault` where the writer fails or takes no byte: a front of it is out then, and never
     /// all of it.
     pub fn flush<W: Write>(&mut self, writer: &mut W) -> Result<(), OutputFault>
-        ensures ok { OnOk result (Appends (W.contents writer.old) (W.contents writer.new) self.old) }
+        ensures ok { OnOk result
+            (Appends (W.contents writer.old) (W.contents writer.new) self.old) }
         ensures emptied { OnOk result (self.new ≡ []) }
         ensures short { OnErr result
             (AppendsProperPrefix (W.contents writer.old) (W.contents writer.new) self.old) }
@@ -103,7 +104,8 @@ pub fn write_audit<W: Write>(alloc: Global, journal: &Journal, writer: &mut W) -
     ensures done { IfOk result (λ done. (done ≡ true)
         × Appends (W.contents writer.old) (W.contents writer.new)
         (audit_text journal.now.version journal.now.entries)) }
-    ensures short { OnErr result (AppendsProperPrefix (W.contents writer.old) (W.contents writer.new)
+    ensures short { OnErr result
+        (AppendsProperPrefix (W.contents writer.old) (W.contents writer.new)
         (audit_text journal.now.version journal.now.entries)) }
     ensures fault { IfErr result IsOutputStop }
 {

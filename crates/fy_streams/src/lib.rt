@@ -1,5 +1,5 @@
 //! What the engines of the commands share: why one stops, with its fault line and exit status; the
-//! reader of cluster files; the writer of audits.
+//! readers of whole inputs and of cluster files; the writer of audits.
 #![tactic(auto)]
 
 mod audit;
@@ -7,5 +7,5 @@ mod load;
 mod stop;
 
 pub use audit::{AuditBuffer, write_audit};
-pub use load::load_config;
+pub use load::{input_stop, load_bytes, load_config};
 pub use stop::{Stop, write_numbered, write_stop};

@@ -1,9 +1,9 @@
 -- what a document says of a bad entry, and what a drawing leaves as it is
-use Rattle.std.proofs.Common.{◌≡◌, ◌∙◌, ◌++◌, ℕ, Bool, true, false, Option, Some, None, List, length, refl, sym, ap, subst, if◌then◌else◌}
+use Rattle.std.proofs.Common.{◌≡◌, ◌∙◌, ◌++◌, ℕ, Option, Some, None, List, length, sym, ap, subst}
 use Rattle.std.proofs.lemmas.List.{append_assoc}
 use Rattle.fy_picture.specs.Recording.{HasEndedDue, Recording, roomed}
-use Rattle.fy_picture.specs.SoFar.{ColumnsSoFar, folded, is_full, with_room}
-use Rattle.fy_picture.proofs.SoFar.{laid_stays}
+use Rattle.fy_picture.specs.SoFar.{with_room}
+use Rattle.fy_picture.proofs.SoFar.{laid_stays, with_room_laid}
 use Rattle.fy_svg.specs.Documents.{AppendsMark, NamesBad, bad_mark}
 
 -- a mark, and more behind it
@@ -26,15 +26,8 @@ named_bad bad at before text tail closed is appended closes =
 pub none_named : (bad : Option ℕ) (closed : List ℕ) → bad ≡ None → NamesBad bad closed
 none_named bad closed is = subst (λ o. NamesBad o closed) (sym is) tt
 
-room_laid : (n : ℕ) (columns : ColumnsSoFar) → (with_room n columns).laid ≡ columns.laid
-room_laid n columns = by (is_full n columns)
-  where
-    by : (b : Bool) → (if b then folded columns else columns).laid ≡ columns.laid
-    by true = refl
-    by false = refl
-
 -- the ends that are listed stay
 pub ended_laid : (old new : Recording) → HasEndedDue (roomed old) new → new.columns.laid ≡ old.columns.laid
 ended_laid old new ended =
     laid_stays (length old.execution.journal) (with_room (length old.execution.journal) old.columns) new.columns ended.due
-    ∙ room_laid (length old.execution.journal) old.columns
+    ∙ with_room_laid (length old.execution.journal) old.columns

@@ -3,7 +3,7 @@ use crate::layout::{ROW, x_of};
 use crate::pieces::push_text_and_number;
 use fy_cluster::Status;
 use fy_locality::{ProcId, ProcSet};
-use fy_picture::{Column, States};
+use fy_picture::{Column, States, symmetric_difference};
 use std::alloc::{AllocError, Global};
 
 /// The class of the broad part of a band.
@@ -64,17 +64,12 @@ fn write_band(
     Ok(())
 }
 
-/// The processes that one of two sets alone has.
-fn in_one(one: &ProcSet, other: &ProcSet) -> ProcSet {
-    one.difference(other).union(&other.difference(one))
-}
-
 /// The processes whose state isn't the same at two columns.
 fn changed(before: &States, after: &States) -> ProcSet {
-    in_one(&before.up, &after.up)
-        .union(&in_one(&before.clogged, &after.clogged))
-        .union(&in_one(&before.destroyed, &after.destroyed))
-        .union(&in_one(&before.left, &after.left))
+    symmetric_difference(&before.up, &after.up)
+        .union(&symmetric_difference(&before.clogged, &after.clogged))
+        .union(&symmetric_difference(&before.destroyed, &after.destroyed))
+        .union(&symmetric_difference(&before.left, &after.left))
 }
 
 /// For each of so many processes the columns at which its state isn't that of the column before,

@@ -252,6 +252,29 @@ impl Drawing {
         Ok(())
     }
 
+    /// Enters the entries of a journal into a drawing of no entries, up to the first bad one. Those
+    /// behind it would change nothing.
+    ///
+    /// # Errors
+    ///
+    /// `AllocError` where an allocation fails.
+    pub fn enter_all(&mut self, journal: &Journal) -> Result<(), AllocError>
+        requires { (setup : Setup) × HasRecorded setup [] self.old }
+        ensures entered { OnOk result ((setup : Setup) → HasRecorded setup [] self.old
+            → HasRecorded setup journal.now.entries self.new) }
+        ensures version { OnOk result (self.new.version ≡ self.old.version) }
+        ensures laid { OnOk result (self.new.columns.laid ≡ self.old.columns.laid) }
+    {
+        journal.invariant();
+        for entry in journal.entries() {
+            self.enter(entry.try_copy(self.alloc)?)?;
+            if self.first_bad().is_some() {
+                return Ok(());
+            }
+        }
+        Ok(())
+    }
+
     /// The SVG document of the entries before the first bad one, whose place it marks in red.
     /// `config` is the one that the drawing began with.
     ///
@@ -307,13 +330,10 @@ pub fn svg(alloc: Global, config: &Config, journal: &Journal) -> Result<String, 
     ensures bad { IfErr result (λ fault.
         ChecksOrOom journal.now.version config.now journal.now.entries (Err fault)) }
 {
-    journal.invariant();
     let mut drawing = Drawing::begin(alloc, config, journal.version())?;
-    for entry in journal.entries() {
-        drawing.enter(entry.try_copy(alloc)?)?;
-        if let Some(at) = drawing.first_bad() {
-            return Err(CheckFault::BadEntry { at });
-        }
+    drawing.enter_all(journal)?;
+    if let Some(at) = drawing.first_bad() {
+        return Err(CheckFault::BadEntry { at });
     }
     Ok(drawing.finish(config)?)
 }

@@ -1,7 +1,7 @@
 //! Which process keeps each record at the end.
 use crate::lanes::Lane;
 use crate::layout::{ROW, x_of, y_of};
-use crate::words::write_numbers;
+use crate::words::write_list;
 use fy_locality::ProcId;
 use fy_picture::Picture;
 use std::alloc::{AllocError, Global};
@@ -34,12 +34,12 @@ fn write_kept(text: &mut String, kept: &[u64], x: u64, y: u64) -> Result<(), All
     let told = kept.len().min(MOST_TOLD);
     let others = kept.len().saturating_sub(told);
     write!(text, "<text class=\"keeps\" x=\"{x}\" y=\"{y}\">keeps ")?;
-    write_numbers(text, &kept[..told])?;
+    write_list(text, &kept[..told])?;
     if others > 0 {
         write!(text, " and {others} more")?;
     }
     text.push_str("<title>keeps ")?;
-    write_numbers(text, kept)?;
+    write_list(text, kept)?;
     text.push_str("</title></text>\n")
 }
 

@@ -1,7 +1,7 @@
 //! The marks of columns in which records are acknowledged, and time passes.
 use crate::drawing::Drawn;
 use crate::layout::{ROW, middle_of, y_of};
-use crate::words::write_numbers;
+use crate::words::write_list;
 use fy_picture::{Column, Picture};
 use std::alloc::{AllocError, Global};
 
@@ -138,7 +138,7 @@ fn write_ack(
         let count = recs.len();
         write_span(text, columns, column)?;
         write!(text, "{count} records are acknowledged: ")?;
-        write_numbers(text, recs)?;
+        write_list(text, recs)?;
     }
     text.push_str("</title></path>\n")
 }

@@ -29,7 +29,7 @@ fn count_up(states: &States) -> u32 {
 }
 
 /// The count of a stepped line at a column.
-pub(crate) fn count_at(columns: &[Column], column: usize, what: Counted) -> Option<u32> {
+fn count_at(columns: &[Column], column: usize, what: Counted) -> Option<u32> {
     let column = columns.get(column)?;
     match what {
         Counted::Killable(place) => column.counts.get(place).copied(),
@@ -37,37 +37,54 @@ pub(crate) fn count_at(columns: &[Column], column: usize, what: Counted) -> Opti
     }
 }
 
+/// Columns that follow one another with the same count.
+#[derive(Clone, Copy)]
+struct Step {
+    from: usize,
+    to: usize,
+    count: u32,
+}
+
+/// The steps of a line, from left to right.
+fn steps_of(alloc: Global, columns: &[Column], what: Counted) -> Result<Vec<Step>, AllocError> {
+    let mut steps = Vec::new(alloc);
+    let mut from = 0;
+    for at in 0..columns.len() {
+        let to = at + 1;
+        if let Some(count) = count_at(columns, at, what)
+            && count_at(columns, to, what) != Some(count)
+        {
+            steps.push(Step { from, to, count })?;
+            from = to;
+        }
+    }
+    Ok(steps)
+}
+
 /// A stepped line: as high as all processes where each counts.
-pub(crate) fn write_steps(
+fn write_steps(
     text: &mut String,
-    columns: &[Column],
-    what: Counted,
+    steps: &[Step],
     processes: u32,
     foot: u64,
 ) -> Result<(), AllocError> {
-    let mut last = None;
-    for column in 0..columns.len() {
-        if let Some(count) = count_at(columns, column, what)
-            && last != Some(count)
-        {
-            let x = x_of(column);
-            let y = foot.saturating_sub(height_of(count, processes));
-            if last.is_none() {
-                write!(text, "M{x} {y}")?;
-            } else {
-                write!(text, "H{x}V{y}")?;
-            }
-            last = Some(count);
+    for (place, step) in steps.iter().enumerate() {
+        let x = x_of(step.from);
+        let y = foot.saturating_sub(height_of(step.count, processes));
+        if place == 0 {
+            write!(text, "M{x} {y}")?;
+        } else {
+            write!(text, "H{x}V{y}")?;
         }
     }
-    let end = x_of(columns.len());
-    if last.is_some() {
+    if let Some(last) = steps.last() {
+        let end = x_of(last.to);
         write!(text, "H{end}")?;
     }
     Ok(())
 }
 
-/// How many columns a number at a step takes, at 7 pixels a digit, 3 in front and 1 behind.
+/// How many columns the count at a step takes, at 7 pixels a digit, 3 in front and 1 behind.
 fn columns_of(count: u32) -> usize {
     if count < 10 {
         1
@@ -78,15 +95,15 @@ fn columns_of(count: u32) -> usize {
     }
 }
 
-/// A number at a step, below a line that is high enough for it and else above.
-fn write_number(
+/// The count at a step, below a line that is high enough for it and else above.
+fn write_count(
     text: &mut String,
     what: Counted,
-    from: usize,
-    count: u32,
+    step: Step,
     foot: u64,
     height: u64,
 ) -> Result<(), AllocError> {
+    let Step { from, to: _, count } = step;
     let x = x_of(from).saturating_add(3);
     let line = foot.saturating_sub(height);
     let y = if height < CLEAR {
@@ -107,27 +124,44 @@ fn write_number(
     )
 }
 
-/// The numbers of a stepped line: one for the columns that follow one another with the same count,
-/// unless they are too few for it.
-pub(crate) fn write_numbers(
+/// The counts of a stepped line, each at its step, unless its columns are too few for it.
+fn write_counts(
+    text: &mut String,
+    steps: &[Step],
+    what: Counted,
+    processes: u32,
+    foot: u64,
+) -> Result<(), AllocError> {
+    for step in steps.iter().copied() {
+        if step.to.saturating_sub(step.from) >= columns_of(step.count) {
+            write_count(text, what, step, foot, height_of(step.count, processes))?;
+        }
+    }
+    Ok(())
+}
+
+/// A stepped line, with the counts that have room at their steps, and at its right the last one.
+pub(crate) fn write_line(
+    alloc: Global,
     text: &mut String,
     columns: &[Column],
     what: Counted,
     processes: u32,
     foot: u64,
 ) -> Result<(), AllocError> {
-    let mut from = 0;
-    for at in 0..columns.len() {
-        if let Some(count) = count_at(columns, at, what)
-            && count_at(columns, at + 1, what) != Some(count)
-        {
-            let to = at + 1;
-            if to.saturating_sub(from) >= columns_of(count) {
-                let height = height_of(count, processes);
-                write_number(text, what, from, count, foot, height)?;
-            }
-            from = to;
+    let steps = steps_of(alloc, columns, what)?;
+    match what {
+        Counted::Killable(place) => {
+            write!(text, "<path class=\"policy\" data-policy=\"{place}\" d=\"")?
         }
+        Counted::Up => text.push_str("<path class=\"ups\" d=\"")?,
+    }
+    write_steps(text, &steps, processes, foot)?;
+    text.push_str("\"/>\n")?;
+    write_counts(text, &steps, what, processes, foot)?;
+    if let Some(last) = steps.last() {
+        let (x, count) = (x_of(last.to).saturating_add(6), last.count);
+        writeln!(text, "<text x=\"{x}\" y=\"{foot}\">{count}</text>")?;
     }
     Ok(())
 }
@@ -158,7 +192,7 @@ fn write_label(
 }
 
 /// For each policy a stepped line: how many processes could each be killed for good next, as far as
-/// that policy goes. Numbers stand at its steps, and the number at the end at its right.
+/// that policy goes.
 pub(crate) fn write_policies(
     alloc: Global,
     text: &mut String,
@@ -166,20 +200,11 @@ pub(crate) fn write_policies(
     columns: &[Column],
 ) -> Result<(), AllocError> {
     let processes = config.map().len();
-    let x = x_of(columns.len()).saturating_add(6);
     for (place, policy) in config.policies().iter().enumerate() {
         let foot = foot_of_steps(processes as usize, place);
         let what = Counted::Killable(place);
         write_label(alloc, text, policy, foot)?;
-        write!(text, "<path class=\"policy\" data-policy=\"{place}\" d=\"")?;
-        write_steps(text, columns, what, processes, foot)?;
-        text.push_str("\"/>\n")?;
-        write_numbers(text, columns, what, processes, foot)?;
-        if let Some(last) = columns.last()
-            && let Some(count) = last.counts.get(place)
-        {
-            writeln!(text, "<text x=\"{x}\" y=\"{foot}\">{count}</text>")?;
-        }
+        write_line(alloc, text, columns, what, processes, foot)?;
     }
     Ok(())
 }

@@ -85,7 +85,7 @@ pub(crate) fn document(
     write_keepers(alloc, &mut text, &drawn.picture, lanes)?;
     write_policies(alloc, &mut text, config, columns)?;
     if drawn.rings.is_some() {
-        write_ups(&mut text, columns, config.map().len(), policies)?;
+        write_ups(alloc, &mut text, columns, config.map().len(), policies)?;
     }
     write_orders(&mut text, &drawn.orders, lanes.len(), stepped)?;
     close(&mut text, bad, columns.len(), lanes.len())?;

@@ -6,7 +6,7 @@ use fy_picture::rule_of;
 use std::alloc::AllocError;
 
 /// Numbers, with a comma between two.
-pub(crate) fn write_numbers(text: &mut String, numbers: &[u64]) -> Result<(), AllocError> {
+pub(crate) fn write_list(text: &mut String, numbers: &[u64]) -> Result<(), AllocError> {
     for (place, number) in numbers.iter().enumerate() {
         if place > 0 {
             text.push_str(", ")?;

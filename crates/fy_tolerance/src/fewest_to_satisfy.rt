@@ -29,7 +29,8 @@ pub(crate) fn fewest_to_satisfy(
     free: &ProcSet,
 ) -> Result<Part, AllocError>
     ensures least { IfOk result (λ part. IsWellFormed (tree_of shape.now)
-        → NeedsAtLeast map.now (tree_of shape.now) (sets.contains group.now) (sets.contains free.now)
+        → NeedsAtLeast map.now (tree_of shape.now)
+        (sets.contains group.now) (sets.contains free.now)
         part.least) }
     ensures within { IfOk result (λ part. IsWithin (sets.contains part.set)
         (sets.contains group.now)) }
@@ -76,7 +77,8 @@ pub(crate) fn fewest_to_satisfy(
 /// How many processes of a group it takes at least to have one, and such a set.
 fn one_needed(group: &ProcSet, free: &ProcSet) -> Part
     ensures least { (processes : List Locality)
-        → NeedsAtLeast processes one (sets.contains group.now) (sets.contains free.now) result.least }
+        → NeedsAtLeast processes one
+        (sets.contains group.now) (sets.contains free.now) result.least }
     ensures within { IsWithin (sets.contains result.set) (sets.contains group.now) }
     ensures enough { (processes : List Locality)
         → IsWithin (sets.contains group.now) (everyone processes)

@@ -1,18 +1,9 @@
 //! What in a cluster file is seldom meant.
 use crate::borne::Findings;
 use crate::reports::Case;
-use fy_locality::{Key, ProcId};
+use fy_locality::{KEYS, Key, ProcId};
 use fy_policy::Shape;
 use std::alloc::{AllocError, Global};
-
-/// The keys that a policy may name.
-const KEYS: [Key; 5] = [
-    Key::Process,
-    Key::Machine,
-    Key::Zone,
-    Key::DataHall,
-    Key::DataCenter,
-];
 
 /// What is warned of, each in a sentence without its full stop.
 pub(crate) fn warnings_of(

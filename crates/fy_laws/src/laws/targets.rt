@@ -9,7 +9,8 @@ ghost use Rattle.fy_laws.specs.Targets.{data_centers, by_machine_and_data_center
 /// lie. A process without a data centre is in none.
 pub fn by_machine_and_data_center()
     ensures legal { Legal data_centers by_machine_and_data_center }
-    ensures destroyed { members (destroyed (history data_centers by_machine_and_data_center)) ≡ 1 ∷ 2 ∷ [] }
+    ensures destroyed { members (destroyed (history data_centers by_machine_and_data_center))
+        ≡ 1 ∷ 2 ∷ [] }
     ensures left { members (left data_centers (history data_centers by_machine_and_data_center))
         ≡ 0 ∷ 3 ∷ 4 ∷ 5 ∷ [] }
     ensures up { members (up (history data_centers by_machine_and_data_center)) ≡ 5 ∷ [] }

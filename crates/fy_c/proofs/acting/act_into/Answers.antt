@@ -1,7 +1,6 @@
 use Rattle.std.proofs.Common.{length, refl, subst}
 use Rattle.std.proofs.lemmas.Result.{err_from_is_err_and}
 use Rattle.fy_c.specs.Acting.{Acts, IsShort, Tells}
-use Rattle.fy_c.proofs.Lines.{acts_none}
 use Rattle.fy_c.proofs.acting.act_into.Goals as goal
 
 pub returns-then-buffer-room-clause-acted : goal.returns-then-buffer-room-clause-acted
@@ -12,9 +11,8 @@ pub returns-in_err-text-clause-acted : goal.returns-in_err-text-clause-acted
 returns-in_err-text-clause-acted c =
     let p = err_from_is_err_and c.from_residual.result c.from_residual.ensures.1 in
     rw (p.1, p.2)
-    (acts_none c.args.guard.now.value c.act.new.guard.value c.args.line.now c.args.buffer.now
-    c.args.buffer.now _ c.in_err-text.field-0.0 c.if-buffer-room.false refl refl
-    c.in_err-text.ensures.err)
+    (Acts.unanswered c.if-buffer-room.false c.in_err-text.field-0.0 c.in_err-text.ensures.err refl
+    refl)
 
 pub returns-then-tell-clause-acted : goal.returns-then-tell-clause-acted
 returns-then-tell-clause-acted c =

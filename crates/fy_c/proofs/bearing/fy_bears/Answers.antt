@@ -1,16 +1,13 @@
-use Rattle.std.proofs.Common.{refl, subst}
-use Rattle.fy_c.specs.Bearing.{Bears, IsBorneNow}
-use Rattle.fy_c.specs.declared.status.Status.TheVariants.{Done, NoMemory}
+use Rattle.std.proofs.Common.{subst}
+use Rattle.fy_c.specs.Bearing.{Bears}
+use Rattle.fy_c.specs.Statuses.{Answers}
+use Rattle.fy_c.proofs.Placed.{placed_over}
 use Rattle.fy_c.proofs.bearing.fy_bears.Goals as goal
 
-pub returns-in-Ok-clause-borne : goal.returns-in-Ok-clause-borne
-returns-in-Ok-clause-borne c = (
-  Done,
-  c.number.ensures,
-  Bears.told
-      (subst (λ execution. IsBorneNow execution c.in-Ok.told) c.cluster.ensures.value
-      c.in-Ok.ensures),
-)
-
-pub returns-in-Err-clause-borne : goal.returns-in-Err-clause-borne
-returns-in-Err-clause-borne c = (NoMemory, c.number-in-Err.ensures, Bears.no_memory refl)
+pub returns-clause-borne : goal.returns-clause-borne
+returns-clause-borne c =
+    let old = c.args.borne.now in
+    subst (λ value. Answers c.put.result (Bears value old c.put.new.place)) c.cluster.ensures.value
+    (placed_over (Bears c.cluster.result.now) c.borne_in.result c.put.result old c.put.new.place
+    c.borne_in.ensures.borne c.borne_in.ensures.memory c.put.ensures.answer c.put.ensures.put
+    c.put.ensures.kept)

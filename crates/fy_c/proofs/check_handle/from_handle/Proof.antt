@@ -21,8 +21,8 @@ use Rattle.std.specs.contracts.alloc.Global as heap
 use Rattle.std.proofs.alloc.Global.TheLaws as heap_laws
 use Rattle.std.specs.contracts.impls.GlobalAllocator.TheImpl.{ghosts}
 use Rattle.fy_c.specs.contracts.checking.Check as inner
-use Rattle.fy_c.proofs.Values.{both, single, Loose, al, loose_good, loose_in}
-use Rattle.fy_c.proofs.CheckValues.{Hd, handle_out}
+use Rattle.fy_c.proofs.Values.{both, single, Loose, al, loose_good, loose_in, handle_out}
+use Rattle.fy_c.specs.contracts.check_handle.FyCheck.{the_row as Hd}
 use Rattle.fy_c.specs.contracts.check_handle.from_handle.{ended, clauses}
 use Rattle.fy_c.specs.contracts.check_handle.from_handle.Key.{name as #self}
 use Rattle.fy_c.proofs.check_handle.from_handle.Statement.{statement}
@@ -37,7 +37,7 @@ from_handle_spec 𝓤 𝓛 𝓜 𝓡 wired =
     let a = z.0.3.0 in let d = z.0.3.1.0 in let Post : Val → SProp 𝓤 = (walk_of 𝓛 En hs c).post z in let Run : List Val → SProp 𝓤 = λ ws. WpFn 𝓤 H 𝓣.C 𝓣.Λ fn ws Post in
     qed 𝓛 ((raw (alive 𝓛 En.signature z.0.0 z.0.1) ⊛ ‵ (owns (types_at En.signature.params z.0.0) z.0.3 z.0.4)) ∷ raw (fact 𝓤 (d.at ≢ null_ptr)) ∷ []) ∵ move ! (1 ∷ []) $ heard ! (d.at ≢ null_ptr) (λ some. split ! $ move ! (1 ∷ []) $ fsplit ! $
     handle_tells (al R Z LZ ghosts) ! a z.0.4.0 (λ h eh fits. move ! (1 ∷ []) $ fsplit ! $
-    handle_out ! d z.0.4.1.0 some (λ b o e ws.
+    handle_out ! R d.at d.alloc d.value z.0.4.1.0 some (λ b o e ws.
     let w : Val = single (vptr b o) in let made = both (vptr b o) h in let typed = loose_good R Z LZ ghosts b o h fits in
     suffices ! (Run (h ∷ w ∷ [])) (subst (λ (us : List Val). ent 𝓤 (Run (h ∷ w ∷ [])) (Run us)) (sym (λ i. eh i ++ (ws i ++ []))) (id⊢ 𝓤 (Run (h ∷ w ∷ [])))) $
     enter ! 𝓣.C 𝓣.Λ fn (h ∷ w ∷ []) Post $ alloc_all ! (λ l. pass_all ! refl (fits, ((tt, (tt, tt)), tt)) $

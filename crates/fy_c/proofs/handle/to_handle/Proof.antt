@@ -41,6 +41,6 @@ to_handle_spec 𝓤 𝓛 𝓜 𝓡 wired =
     enter ! 𝓣.C 𝓣.Λ fn (w ∷ []) Post $ alloc_all ! (λ l. pass_all ! refl (typed, tt) $
     sets ! (of_opd ! (get_in ! (fld ! refl (stop !)) (sub ! 0 refl (whole !)))) refl (tt, tt) $ sets ! (of_opd ! (get ! refl)) refl (tt, tt) $
     sets ! (agg ! (and_then ! (get ! refl) (no_more !))) refl (tt, (tt, tt)) $
-    handle_in ! b o v.alloc v.value $
+    handle_in ! R b o v.alloc v.value $
     use0 𝓛 (raw (fact 𝓤 ((v.value ≡ v.value) × (block_ptr b o ≢ null_ptr)))) (fact_i 𝓤 ((v.value ≡ v.value) × (block_ptr b o ≢ null_ptr)) (emp 𝓤) (refl, block_differs b o)) $ nothing ! $ nothing ! $ fjoin ! $
     returns ! (look_at ! 0 refl) $ free_all ! refl $ keep ! (5 ∷ 0 ∷ 2 ∷ 1 ∷ []) $ by ! (leaves 𝓛 En hs c z made (record { at = block_ptr b o; alloc = v.alloc; value = v.value }) (tt, tt) (tt, tt)))))

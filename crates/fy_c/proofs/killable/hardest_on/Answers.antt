@@ -2,12 +2,14 @@ use Rattle.std.proofs.Common.{refl, subst}
 use Rattle.fy_kinds.specs.declared.kind.Kind.TheVariants.{RebootProcess}
 use Rattle.fy_c.specs.KillingProcess.{JudgesProcess}
 use Rattle.fy_c.specs.Numbers.{kind_number}
+use Rattle.fy_c.proofs.Orders.{outcome}
 use Rattle.fy_c.proofs.killable.hardest_on.Goals as goal
 
 pub returns : goal.returns
 returns c =
-    let told = c.judge_process-status.result.1 in
-    let status = c.judge_process-status.result.0 in record {
+    let answer = c.judge_process in
+    let status = c.outcome_of-status.result.0 in
+    let told = c.outcome_of-status.result.1 in record {
       status = status;
       told = told;
       judged = subst
@@ -25,6 +27,16 @@ returns c =
             floor = floor;
             tear = 0;
           }) told status)
-          c.kind_number-floor.ensures c.judge_process-status.ensures);
+          c.kind_number-floor.ensures
+          (outcome
+          (JudgesProcess c.args.cluster.now c.args.actor (record {
+            process = c.args.process;
+            kind = c.kind_number-kind.result;
+            floor = c.kind_number-floor.result;
+            tear = 0;
+          }))
+          answer.result c.outcome_of-status.result (answer.ensures.replied, answer.ensures.none)
+          c.outcome_of-status.ensures.status c.outcome_of-status.ensures.told
+          c.outcome_of-status.ensures.none));
       kind_is = refl;
     }

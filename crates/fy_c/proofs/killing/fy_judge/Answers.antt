@@ -1,6 +1,6 @@
 use Rattle.std.proofs.Common.{subst}
 use Rattle.fy_c.specs.Killing.{Given, Judges}
-use Rattle.fy_c.proofs.Orders.{judges}
+use Rattle.fy_c.proofs.Orders.{HoldsOf, judges, tells}
 use Rattle.fy_c.proofs.killing.fy_judge.Goals as goal
 
 pub returns-clause-judged : goal.returns-clause-judged
@@ -11,14 +11,12 @@ returns-clause-judged c =
       kind = c.args.kind;
       floor = c.args.floor;
       tear = 0;
-    } in (
-      c.expected_outcome-status.result.0,
-      c.number.ensures,
-      subst
-          (λ execution. Judges execution c.args.actor given c.expected_outcome-status.result.1
-          c.expected_outcome-status.result.0)
-          c.cluster.ensures.value
-          (judges c.cluster.result.now c.args.actor given c.order_of-order.result
-          c.expected_outcome-status.result c.order_of-order.ensures.order c.order_of-order.ensures.none
-          c.expected_outcome-status.ensures.given c.expected_outcome-status.ensures.not_given),
-    )
+    } in
+    let answer = c.expected_reply-answer in
+    tells (Judges c.args.guard.now.value c.args.actor given) answer.result c.tell.result _
+    (subst (λ execution. HoldsOf (Judges execution c.args.actor given) answer.result)
+    c.cluster.ensures.value
+    (judges c.cluster.result.now c.args.actor given c.order_of-order.result answer.result
+    c.order_of-order.ensures.order c.order_of-order.ensures.none answer.ensures.given
+    answer.ensures.not_given))
+    c.tell.ensures.status c.tell.ensures.told c.tell.ensures.none

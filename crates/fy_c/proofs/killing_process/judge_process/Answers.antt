@@ -10,12 +10,12 @@ unreachable-requires c =
     c.map.ensures ∙ ap (λ (setup : Setup). setup.processes) c.config.ensures in
     let small : c.args.process < length c.args.cluster.now.setup.processes =
     subst (λ processes. c.args.process < length processes) same
-    (c.in-Ok.ensures.given 0).process in
+    (c.in_ok-kind.ensures.given 0).process in
     let large = c.judge_process.ensures.none.1 c.in_default.is in
     omega arith
 
-pub returns : goal.returns
-returns c =
+pub returns-clause-replied : goal.returns-clause-replied
+returns-clause-replied c =
     let given : GivenProcess = record {
       process = c.args.process;
       kind = c.args.kind;
@@ -24,8 +24,8 @@ returns c =
     } in
     let same : c.map.result.now ≡ c.args.cluster.now.setup.processes =
     c.map.ensures ∙ ap (λ (setup : Setup). setup.processes) c.config.ensures in
-    judges_process c.args.cluster.now c.args.actor given c.in-Ok.kinds.0 c.in-Ok.kinds.1
-    c.in-Some.reply c.reply_outcome.result.0 c.reply_outcome.result.1
-    (subst (λ processes. AreKindsOn processes given c.in-Ok.kinds.0 c.in-Ok.kinds.1) same
-    (c.in-Ok.ensures.given 0))
-    c.in-Ok.ensures.ordered c.in-Some.ensures.some c.reply_outcome.ensures.status c.reply_outcome.ensures.told
+    judges_process c.args.cluster.now c.args.actor given c.in_ok-kind.kind c.in_ok-kind.floor
+    c.in-Some.reply
+    (subst (λ processes. AreKindsOn processes given c.in_ok-kind.kind c.in_ok-kind.floor) same
+    (c.in_ok-kind.ensures.given 0))
+    c.in_ok-kind.ensures.ordered c.in-Some.ensures.some

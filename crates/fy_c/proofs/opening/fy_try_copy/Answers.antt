@@ -1,15 +1,13 @@
-use Rattle.std.proofs.Common.{◌∙◌, refl}
+use Rattle.std.proofs.Common.{subst}
 use Rattle.fy_c.specs.Opening.{Copies}
-use Rattle.fy_c.specs.declared.status.Status.TheVariants.{Done, NoMemory}
+use Rattle.fy_c.specs.Statuses.{Answers}
+use Rattle.fy_c.proofs.Placed.{placed_over}
 use Rattle.fy_c.proofs.opening.fy_try_copy.Goals as goal
 
-pub returns-in-Ok-clause-copied : goal.returns-in-Ok-clause-copied
-returns-in-Ok-clause-copied c = (
-  Done,
-  c.number.ensures,
-  Copies.copied c.closed_up.ensures.open
-      (c.closed_up.ensures.value ∙ (c.in-Ok.ensures ∙ c.cluster.ensures.value)),
-)
-
-pub returns-in-Err-clause-copied : goal.returns-in-Err-clause-copied
-returns-in-Err-clause-copied c = (NoMemory, c.number-in-Err.ensures, Copies.no_memory refl)
+pub returns-clause-copied : goal.returns-clause-copied
+returns-clause-copied c =
+    let old = c.args.other.now in
+    subst (λ value. Answers c.put.result (Copies value old c.put.new.place)) c.cluster.ensures.value
+    (placed_over (Copies c.cluster.result.now) c.copied.result c.put.result old c.put.new.place
+    c.copied.ensures.copied c.copied.ensures.memory c.put.ensures.answer c.put.ensures.put
+    c.put.ensures.kept)

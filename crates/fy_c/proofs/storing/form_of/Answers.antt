@@ -2,7 +2,7 @@ use Rattle.std.proofs.Common.{refl}
 use Rattle.std.proofs.lemmas.Bool.{false≢true}
 use Rattle.std.proofs.lemmas.Result.{err_from_is_err_and}
 use Rattle.fy_c.specs.Making.{NoForm}
-use Rattle.fy_c.proofs.Lines.{has_room}
+use Rattle.fy_answers.proofs.Entering.{has_room}
 use Rattle.fy_c.proofs.storing.form_of.Goals as goal
 
 pub returns-then-not-are_members-clause-not_given :

@@ -5,4 +5,4 @@ pub returns : goal.returns
 returns c = λ t.
     let one = c.args.one.now in
     let other = c.args.other.now in
-    moved_all c.differing.result one other (c.is_empty.ensures.0 t) (moved_but c.differing.result one other c.differing.ensures)
+    moved_all c.symmetric_difference.result one other (c.is_empty.ensures.0 t) (moved_but c.symmetric_difference.result one other c.symmetric_difference.ensures)

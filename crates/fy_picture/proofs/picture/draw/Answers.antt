@@ -7,7 +7,7 @@ use Rattle.fy_cluster.specs.Execution.{Execution}
 use Rattle.fy_picture.specs.Layouts.{AreEven, IsWidth}
 use Rattle.fy_picture.specs.Pictures.{IsPicture}
 use Rattle.fy_picture.specs.Recording.{HasRecorded, Recording}
-use Rattle.fy_picture.proofs.Recorders.{all_are_legal, all_recorded, bad_of_all, one_more_recorded, upto}
+use Rattle.fy_picture.proofs.Recorders.{all_are_legal, all_recorded, bad_of_all, next_place, one_more_recorded, upto}
 use Rattle.fy_picture.proofs.picture.draw.Goals as goal
 
 pub loop-entry-init : goal.loop-entry-init
@@ -26,7 +26,7 @@ enter-requires c = λ none.
     ap (λ (x : Entry). x.at) c.in_ok-try_copy-2.ensures.equal
     ∙ c.invariant.ensures.numbered i c.entry-item.result (slice_get_read entries (length entries) i c.entry-item.result refl (search rules) (search rules))
     ∙ sym (length-take-le i entries (search rules))
-    ∙ sym (ap (λ (x : Execution). length x.journal) (all_recorded c.args.config.now (take i entries) c.loop-entry.recorder c.loop-entry.invariant.0 none))
+    ∙ next_place c.args.config.now (take i entries) c.loop-entry.recorder c.loop-entry.invariant.0 none
 
 pub loop-entry-preserved : goal.loop-entry-preserved
 loop-entry-preserved c = (

@@ -3,8 +3,8 @@ use Rattle.std.proofs.lemmas.Result.{err_from_is_err_and}
 use Rattle.fy_audit.specs.Script.{ScriptAnswers}
 use Rattle.fy_streams.specs.Stops.{script_stop}
 use Rattle.fy_streams.specs.declared.stop.Stop.TheVariants.{Read}
-use Rattle.fy_streams.proofs.Loading.{same_stop}
-use Rattle.fy_run.proofs.Loading.{script_told, script_own, script_unfull, script_unread, script_unwritten}
+use Rattle.fy_streams.proofs.Loading.{same_stop, unread_within}
+use Rattle.fy_run.proofs.Loading.{script_told, script_own, script_unfull, script_unread, script_unwritten, unread_told, unread_own, unread_no_other}
 use Rattle.fy_run.proofs.run.load_script.Goals as goal
 
 pub returns-in_err-read_script-clause-refused : goal.returns-in_err-read_script-clause-refused
@@ -14,24 +14,47 @@ returns-in_err-read_script-clause-refused g c =
     let holds =
     subst (λ bytes. ScriptAnswers bytes (Err fault)) c.deref.ensures.value
     c.in_err-read_script.ensures.refused in
-    let p = err_from_is_err_and c.from_residual.result c.from_residual.ensures.1 in
-    rw (p.1, p.2) (script_told known c.in-Ok.bytes.items fault c.in-Ok.ensures.all holds)
+    let p = err_from_is_err_and c.from_residual-in_err-read_script.result c.from_residual-in_err-read_script.ensures.1 in
+    rw (p.1, p.2) (script_told known c.in_ok-bytes.bytes.items fault c.in_ok-bytes.ensures.all holds)
 
 pub returns-in_err-read_script-clause-no_other : goal.returns-in_err-read_script-clause-no_other
 returns-in_err-read_script-clause-no_other g c =
     let fault = c.in_err-read_script.field-0.0 in
-    let p = err_from_is_err_and c.from_residual.result c.from_residual.ensures.1 in
+    let p = err_from_is_err_and c.from_residual-in_err-read_script.result c.from_residual-in_err-read_script.ensures.1 in
     rw (p.1, p.2) (script_unfull fault, script_unwritten fault)
 
 pub returns-in_err-read_script-clause-own : goal.returns-in_err-read_script-clause-own
 returns-in_err-read_script-clause-own g c =
-    let p = err_from_is_err_and c.from_residual.result c.from_residual.ensures.1 in
+    let p = err_from_is_err_and c.from_residual-in_err-read_script.result c.from_residual-in_err-read_script.ensures.1 in
     rw (p.1, p.2) (script_own c.in_err-read_script.field-0.0)
 
 pub returns-in_err-read_script-clause-read_fault :
     goal.returns-in_err-read_script-clause-read_fault
 returns-in_err-read_script-clause-read_fault g c is =
     let fault = c.in_err-read_script.field-0.0 in
-    let p = err_from_is_err_and c.from_residual.result c.from_residual.ensures.1 in
+    let p = err_from_is_err_and c.from_residual-in_err-read_script.result c.from_residual-in_err-read_script.ensures.1 in
     absurd (script_unread fault
-    (same_stop c.from_residual.result (script_stop fault) Read (p.1 ∙ ap Err p.2) is))
+    (same_stop c.from_residual-in_err-read_script.result (script_stop fault) Read (p.1 ∙ ap Err p.2) is))
+
+pub returns-in_err-bytes-clause-refused : goal.returns-in_err-bytes-clause-refused
+returns-in_err-bytes-clause-refused g c =
+    let p = err_from_is_err_and c.from_residual.result c.from_residual.ensures.1 in
+    rw (p.1, p.2) (unread_told c.in_err-bytes.ensures.err)
+
+pub returns-in_err-bytes-clause-no_other : goal.returns-in_err-bytes-clause-no_other
+returns-in_err-bytes-clause-no_other g c =
+    let p = err_from_is_err_and c.from_residual.result c.from_residual.ensures.1 in
+    rw (p.1, p.2) (unread_no_other c.in_err-bytes.ensures.err)
+
+pub returns-in_err-bytes-clause-own : goal.returns-in_err-bytes-clause-own
+returns-in_err-bytes-clause-own g c =
+    let p = err_from_is_err_and c.from_residual.result c.from_residual.ensures.1 in
+    rw (p.1, p.2) (unread_own c.in_err-bytes.ensures.err)
+
+pub returns-in_err-bytes-clause-read_fault : goal.returns-in_err-bytes-clause-read_fault
+returns-in_err-bytes-clause-read_fault g c is =
+    let stop = c.in_err-bytes.field-0.0 in
+    let p = err_from_is_err_and c.from_residual.result c.from_residual.ensures.1 in
+    unread_within c.in_err-bytes.ensures.err
+    (same_stop c.from_residual.result stop Read (p.1 ∙ ap Err p.2) is)
+    (λ other. let bad : ⊥ = cc in bad)

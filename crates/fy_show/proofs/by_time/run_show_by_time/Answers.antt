@@ -1,6 +1,7 @@
 use Rattle.std.proofs.Common.{sym, subst}
 use Rattle.std.proofs.lemmas.Result.{err_from_is_err_and}
 use Rattle.std.specs.Io.KnownBytes.{Appends}
+use Rattle.fy_audit.specs.Audit.{audit_of}
 use Rattle.fy_lines.specs.Prefixes.{AppendsProperPrefix}
 use Rattle.fy_svg.specs.Documents.{IsDocument}
 use Rattle.fy_show.specs.Shows.{AreRefused, HasDrawnByTime}
@@ -29,7 +30,7 @@ returns-in_err-write_bytes-clause-front_out g c _ =
           (g.W.Write.contents c.write_bytes.new.writer))
           c.in_ok-held.ensures.held c.in_ok-told.ensures.read
           done.0 done.1 done.2 done.3
-          done.4 (subst (λ es. HasDrawnByTime setup c.in_ok-held.held.journal done.0 es done.4) c.deref.ensures.value done.5)
+          done.4 (subst (λ es. HasDrawnByTime setup (audit_of c.in_ok-held.held.journal) done.0 es done.4) c.deref.ensures.value done.5)
           c.as_bytes.result.now (subst (IsDocument done.4) (sym c.as_bytes.ensures.value) done.6)
           c.in_err-write_bytes.ensures.short,
     )
@@ -44,6 +45,6 @@ returns-clause-done g c =
     (g.W.Write.contents c.write_bytes.new.writer))
     c.in_ok-held.ensures.held c.in_ok-told.ensures.read
     done.0 done.1 done.2 done.3
-    done.4 (subst (λ es. HasDrawnByTime setup c.in_ok-held.held.journal done.0 es done.4) c.deref.ensures.value done.5)
+    done.4 (subst (λ es. HasDrawnByTime setup (audit_of c.in_ok-held.held.journal) done.0 es done.4) c.deref.ensures.value done.5)
     c.as_bytes.result.now (subst (IsDocument done.4) (sym c.as_bytes.ensures.value) done.6)
     c.in_ok-write_bytes.ensures.ok

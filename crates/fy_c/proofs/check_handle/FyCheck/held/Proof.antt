@@ -35,8 +35,8 @@ use Rattle.std.specs.contracts.impls.GlobalAllocator.TheImpl.{ghosts}
 use Rattle.fy_c.specs.contracts.checking.Check as inner
 use Rattle.fy_c.specs.CheckHandles.{with_check}
 use Rattle.fy_c.specs.declared.check_handle.FyCheck.{FyCheck}
-use Rattle.fy_c.proofs.Values.{single}
-use Rattle.fy_c.proofs.CheckValues.{Hd, handle_out, handle_in}
+use Rattle.fy_c.proofs.Values.{single, handle_out, handle_in}
+use Rattle.fy_c.specs.contracts.check_handle.FyCheck.{the_row as Hd}
 use Rattle.fy_c.specs.contracts.check_handle.FyCheck.held.{ended, clauses}
 use Rattle.fy_c.specs.contracts.check_handle.FyCheck.held.Key.{name as #self}
 use Rattle.fy_c.proofs.check_handle.FyCheck.held.Statement.{statement}
@@ -69,7 +69,7 @@ module _ {M : Type 1} {𝓤 : Ura M} (𝓛 : Logic 𝓤) (at_mem : Memory → SP
     unfolding part_of
     back at_b w =
         qed 𝓛 (‵ (part_at R full_share w b o) ∷ ‵ Rest ∷ []) ∵ move ! (1 ∷ []) $ fsplit ! $ move ! (2 ∷ 0 ∷ []) $ fjoin ! $
-        handle_in ! b o h.alloc w $
+        handle_in ! R b o h.alloc w $
         rewrite ! 0 (λ (p : Ptr). ‵ (Hd.own_val (record { at = p; alloc = h.alloc; value = w }) (single (vptr b o) ∷ []))) (sym at_b) refl $
         move ! (1 ∷ 0 ∷ []) $ fjoin ! $
         fpack ! (List Val) (λ us. fsep (cell_at full_share Hd.mir us rb ro) (Hd.own_val (with_check h w) us)) (single (vptr b o) ∷ []) $ done !
@@ -90,7 +90,7 @@ module _ {M : Type 1} {𝓤 : Ura M} (𝓛 : Logic 𝓤) (at_mem : Memory → SP
         alloc_all ! (λ l. pass_all ! refl ((tt, tt), tt) $
         let En : Env 𝓤 H = env code.function.locals l in
         move ! (1 ∷ []) $ fsplit ! $ fsplit3 ! $ drop ! $ move ! (3 ∷ []) $ split ! $ move ! (2 ∷ 3 ∷ 0 ∷ []) $
-        opens ! tt Hd {h = h} rb ro (λ vs. move ! (1 ∷ []) $ handle_out ! h vs some_at (λ b o at_b ws. fsplit ! $
+        opens ! tt Hd {h = h} rb ro (λ vs. move ! (1 ∷ []) $ handle_out ! R h.at h.alloc h.value vs some_at (λ b o at_b ws. fsplit ! $
         rewrite ! 2 (λ (us : List Val). ‵ (cell_at full_share Hd.mir us rb ro)) ws refl $
         first ! $ blocks ! $
         sets ! (of_opd ! (load ! (through ! refl (fld ! refl (stop !))) (look_in ! 2 (sub ! 0 refl (whole !))))) refl (tt, tt) $

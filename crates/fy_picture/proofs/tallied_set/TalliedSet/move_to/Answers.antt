@@ -6,4 +6,4 @@ use Rattle.fy_picture.proofs.tallied_set.TalliedSet.move_to.Goals as goal
 pub move_those-requires : goal.move_those-requires
 move_those-requires c = λ p out.
     ap (λ s. sets.contains s p) c.self.invariant
-    ∙ moved_but c.differing-those.result c.self.inside.set c.args.set.now c.differing-those.ensures p out
+    ∙ moved_but c.symmetric_difference-those.result c.self.inside.set c.args.set.now c.symmetric_difference-those.ensures p out

@@ -1,5 +1,6 @@
 use Rattle.std.proofs.Common.{◌∙◌}
-use Rattle.fy_show.proofs.Showing.{all_on_ok, next_place}
+use Rattle.fy_picture.proofs.Recorders.{next_place}
+use Rattle.fy_show.proofs.Showing.{all_on_ok}
 use Rattle.fy_show.proofs.sketch.SketchSink.enter.Goals as goal
 
 pub enter-requires : goal.enter-requires
