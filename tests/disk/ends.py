@@ -146,9 +146,10 @@ def orderly_end(program):
 def written_back(program):
     """What is older than --writeback is durable by itself at the next change, and so is what is too
     much for the memory."""
-    with mounted(program, "--writeback", "0.3") as disk:
+    # The new file has to be cut off before it is old too: a busy disk holds up a call for a second.
+    with mounted(program, "--writeback", "3") as disk:
         write(disk.top / "old", b"old", sync=False)
-        time.sleep(0.4)
+        time.sleep(3.1)
         write(disk.top / "new", b"new", sync=False)
         disk.cut(0)
         assert os.listdir(disk.folder) == ["old"] and (disk.folder / "old").read_bytes() == b"old"

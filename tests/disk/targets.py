@@ -288,17 +288,18 @@ class Kernel(Calls):
     """A file system of the kernel on a loop device, whose power FS_IOC_SHUTDOWN cuts."""
 
     def __init__(self, kind, folder):
-        self.image, self.mount = folder / f"{kind}.image", folder / kind
+        image, self.mount = folder / f"{kind}.image", folder / kind
         self.mount.mkdir()
-        with self.image.open("xb") as file:
+        with image.open("xb") as file:
             file.truncate(400 << 20)
-        subprocess.run([f"mkfs.{kind}", "-q", self.image], check=True)
+        subprocess.run([f"mkfs.{kind}", "-q", image], check=True)
+        self.device = loop_device(image)
         super().__init__(self.mount)
         self.folder = self.mount
         self.start()
 
     def start(self):
-        subprocess.run(["mount", "-o", "loop", self.image, self.mount], check=True)
+        subprocess.run(["mount", self.device.name, self.mount], check=True)
 
     def begin(self, name):
         """Calls go below a folder of its own from now on, which is durable."""
@@ -310,7 +311,23 @@ class Kernel(Calls):
     def cut(self, tear):
         with Opened(self.mount) as folder:
             fcntl.ioctl(folder.fileno(), SHUTDOWN, NOLOGFLUSH)
-        self.end()
+        self.unmount()
+
+    def unmount(self):
+        subprocess.run(["umount", self.mount], check=True)
 
     def end(self):
-        subprocess.run(["umount", self.mount], check=True)
+        self.unmount()
+        self.device.close()
+
+
+def loop_device(image):
+    """A loop device with this image, opened. It is let go of where it is no longer open or mounted,
+    whatever ends this process, and not at each cut: an image isn't taken again while it is being
+    let go of."""
+    name = subprocess.run(
+        ["losetup", "--find", "--show", image], check=True, capture_output=True, text=True
+    ).stdout.strip()
+    device = open(name, "rb", buffering=0)
+    subprocess.run(["losetup", "--detach", name], check=True)
+    return device

@@ -1,7 +1,7 @@
 -- what a cluster's calls say of an act that is entered, and of one that isn't
-use Rattle.std.proofs.Common.{◌≡◌, ◌∙◌, ◌≤◌, ◌+◌, ◌-◌, ℕ, List, [], ◌∷◌, ◌++◌, length, length-append, refl, ap, arith, slice_get, Some, inl, inr}
+use Rattle.std.proofs.Common.{◌≡◌, ◌∙◌, ◌↔◌, ◌≤◌, ◌+◌, ◌-◌, ℕ, List, [], ◌∷◌, ◌++◌, length, length-append, refl, ap, arith, slice_get, Some, inl, inr}
 use Rattle.std.proofs.lemmas.Bool.{cases_lt}
-use Rattle.std.specs.Prelude.{Ok, Err}
+use Rattle.std.specs.Prelude.{Result, Ok, Err}
 use Rattle.fy_acts.specs.declared.act.Act.{Act}
 use Rattle.fy_acts.specs.declared.entry.Entry.{Entry}
 use Rattle.fy_spelling.specs.Command.{LineAnswers}
@@ -16,14 +16,7 @@ use Rattle.fy_answers.specs.Answers.{HasRoom, HasNoEntry, HasNoAnswer, reading_f
 pub faulty_line : (execution : Execution) (line : List ℕ) (room : ℕ) (fault : CommandFault) →
     LineAnswers line (Err fault) → HasNoAnswer execution execution line room (reading_fault fault)
 faulty_line execution line room (reading.Line fault) is = HasNoAnswer.faulty fault is refl
-faulty_line execution line room reading.NoMemory is = HasNoAnswer.unread refl
-
--- an act isn't entered
-pub no_entry : (old new : Execution) (by : ℕ) (act : Act) (room : ℕ) (why : Fault) →
-    (why ≡ cluster.JournalFull → old.setup.limit ≤ length old.journal) → new ≡ old →
-    HasNoEntry old new by act room (entering_fault why)
-no_entry old new by act room cluster.JournalFull full kept = HasNoEntry.full (full refl) kept
-no_entry old new by act room cluster.NoMemory full kept = HasNoEntry.no_memory kept
+faulty_line execution line room reading.NoMemory is = HasNoAnswer.unread is refl
 
 -- what was put behind a list is found behind it
 at_end : {X : Type 0} (xs : List X) (x : X) → slice_get (xs ++ x ∷ []) (length xs) ≡ Some x
@@ -51,9 +44,13 @@ last_entry old new by act entries entry enters its found =
     last_is entries old.journal (next_entry old by act) entry
     (its ∙ ap (λ (it : Execution). it.journal) enters) found
 
--- an answer is no full journal
+-- an answer is no full journal, and neither is an allocation that failed
 pub not_full : {A : Type 0} (answer : A) → Ok answer ≡ Err cluster.JournalFull → ⊥
 not_full answer full = cc
+
+memory_not_full : {A : Type 0} (result : Result A Fault) → result ≡ Err cluster.NoMemory →
+    result ≡ Err cluster.JournalFull → ⊥
+memory_not_full result memory full = cc
 
 -- what isn't full has room
 pub has_room : (execution : Execution) → (execution.setup.limit ≤ length execution.journal → ⊥) →
@@ -63,3 +60,13 @@ has_room execution none =
       | inl room ↦ room
       | inr full ↦ absurd (none full)
     ]
+
+-- an act isn't entered
+pub no_entry : {A : Type 0} (old new : Execution) (by : ℕ) (act : Act) (room : ℕ) (why : Fault)
+    (result : Result A Fault) → result ≡ Err why →
+    (old.setup.limit ≤ length old.journal) ↔ (result ≡ Err cluster.JournalFull) → new ≡ old →
+    HasNoEntry old new by act room (entering_fault why)
+no_entry old new by act room cluster.JournalFull result is full kept =
+    HasNoEntry.full (full.1 is) kept
+no_entry old new by act room cluster.NoMemory result is full kept =
+    HasNoEntry.no_memory (has_room old (λ limit. memory_not_full result is (full.0 limit))) kept

@@ -3,6 +3,7 @@ use Rattle.std.specs.Prelude.{◌≡◌, ◌<◌, ◌≤◌, ℕ, List, length, 
 use Rattle.fy_acts.specs.declared.act.Act.{Act}
 use Rattle.fy_spelling.specs.Command.{LineOf}
 use Rattle.fy_spelling.specs.declared.command.Command.{Command}
+use Rattle.fy_spelling.specs.declared.command.TheConstants.{MOST_LINE_BYTES}
 use Rattle.fy_spelling.specs.declared.command.CommandFault.{CommandFault}
 use Rattle.fy_spelling.specs.declared.command.CommandFault.TheVariants as reading
 use Rattle.fy_spelling.specs.declared.command.LineFault.{LineFault}
@@ -43,13 +44,13 @@ pub record HasEntered (old new : Execution) (by : ℕ) (act : Act) (text : List 
   pub made : IsMade old new by act
   pub text_is : text ≡ made_line old by act
 
--- an act isn't made, since the journal is full or an allocation failed; or it is, and its entry's
--- line couldn't be had, which is longer than the room for it
+-- an act isn't made, since the journal is full, or it has room and an allocation failed; or the act
+-- is made, and its entry's line couldn't be had, which is longer than the room for it
 pub data HasNoEntry (old new : Execution) (by : ℕ) (act : Act) (room : ℕ) : AnswerFault → Type 0
   where
     full : old.setup.limit ≤ length old.journal → new ≡ old →
         HasNoEntry old new by act room JournalFull
-    no_memory : new ≡ old → HasNoEntry old new by act room NoMemory
+    no_memory : HasRoom old → new ≡ old → HasNoEntry old new by act room NoMemory
     unwritten : IsMade old new by act → room < length (made_line old by act) →
         HasNoEntry old new by act room Unwritten
 
@@ -59,12 +60,12 @@ pub record IsAnswered (old new : Execution) (line text : List ℕ) : Type 0 wher
   pub asked : LineOf line (Ok command)
   pub entered : HasEntered old new command.by command.act text
 
--- a line has no answer: it is no command, an allocation failed as it was read, or its command has no
--- entry or no line for that
+-- a line has no answer: it is no command, an allocation failed as it was read, which isn't too long,
+-- or its command has no entry or no line for that
 pub data HasNoAnswer (old new : Execution) (line : List ℕ) (room : ℕ) : AnswerFault → Type 0 where
   faulty : (fault : LineFault) → LineOf line (Err fault) → new ≡ old →
       HasNoAnswer old new line room (Line fault)
-  unread : new ≡ old → HasNoAnswer old new line room NoMemory
+  unread : length line ≤ MOST_LINE_BYTES → new ≡ old → HasNoAnswer old new line room NoMemory
   no_entry : (command : Command) → LineOf line (Ok command) → (fault : AnswerFault) →
       HasNoEntry old new command.by command.act room fault →
       HasNoAnswer old new line room fault

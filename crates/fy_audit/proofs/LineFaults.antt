@@ -1,13 +1,11 @@
 -- what is left of an audit, where its first line is faulty
-use Rattle.std.proofs.Common.{◌≡◌, ◌≢◌, ◌∙◌, ℕ, ◌<◌, ◌≤◌, List, [], ◌∷◌, ◌++◌, length, sym, ap, arith, refl, append_assoc, length-append}
+use Rattle.std.proofs.Common.{◌≡◌, ◌∙◌, ℕ, ◌<◌, ◌≤◌, List, [], ◌∷◌, ◌++◌, length, ap, arith}
 use Rattle.fy_lines.specs.Lines.{lines_of, IsLine}
-use Rattle.fy_lines.proofs.SplitLemmas.{lines_of_ended, lines_of_lone}
+use Rattle.fy_lines.proofs.SplitLemmas.{lines_of_lone}
 use Rattle.fy_lines.proofs.FeedLemmas.{begins}
 use Rattle.fy_spelling.specs.Values.{text_of}
-use Rattle.fy_acts.specs.declared.entry.Entry.{Entry}
 use Rattle.fy_spelling.specs.declared.command.TheConstants.{MOST_LINE_BYTES}
-use Rattle.fy_audit.specs.Audit.{BeginsWith, BeginsFaulty}
-use Rattle.fy_audit.specs.AuditText.{header}
+use Rattle.fy_audit.specs.Audit.{BeginsFaulty}
 use Rattle.fy_audit.specs.declared.audit.AuditLineFault.TheVariants.{TooLong, Syntax}
 use Rattle.fy_audit.proofs.Steps.{spread}
 use Rattle.fy_acts.specs.declared.version.Version.{Version}

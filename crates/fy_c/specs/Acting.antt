@@ -10,12 +10,12 @@ use Rattle.fy_c.specs.declared.acting.TheConstants.{MOST_REPLY_BYTES}
 use Rattle.fy_c.specs.declared.status.Status.{Status}
 use Rattle.fy_c.specs.declared.status.Status.TheVariants.{Done, NoMemory, Short, Unwritten, NoEntry}
 
--- a line has no answer, for which there is so much room: the status of its fault
-pub record IsUnanswered (old new : Execution) (line : List ℕ) (room : ℕ) (status : Status) : Type 0
-  where
-    pub fault : AnswerFault
-    pub none : HasNoAnswer old new line room fault
-    pub told : status ≡ answer_status fault
+-- a line has no answer, for which there is so much room: that room couldn't be had, and the line
+-- wasn't read; or the status of its fault
+pub data IsUnanswered (old new : Execution) (line : List ℕ) (room : ℕ) : Status → Type 0 where
+  no_room : new ≡ old → IsUnanswered old new line room NoMemory
+  no_answer : (fault : AnswerFault) → HasNoAnswer old new line room fault →
+      IsUnanswered old new line room (answer_status fault)
 
 -- the text is written to the front of a buffer, whose other bytes stay, and its length is told
 pub record Tells (before after : List ℕ) (told : ℕ) (text : List ℕ) : Type 0 where

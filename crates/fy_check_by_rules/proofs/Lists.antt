@@ -1,5 +1,5 @@
 -- lists one element after another
-use Rattle.std.proofs.Common.{◌≡◌, ℕ, zero, suc, ◌+◌, ◌-◌, ◌<◌, ◌≤◌, Bool, true, false, cond, List, [], ◌∷◌, ◌++◌, length, take, map, filter, get_or, slice_get, Some, None, refl, sym, ◌∙◌, ap, ap₂, add-one, arith, length-append}
+use Rattle.std.proofs.Common.{◌≡◌, ℕ, zero, suc, ◌+◌, ◌-◌, ◌<◌, ◌≤◌, Bool, true, false, cond, List, [], ◌∷◌, ◌++◌, length, take, map, filter, get_or, Some, None, refl, sym, ◌∙◌, ap, ap₂, add-one, arith, length-append}
 use Rattle.std.specs.Prelude.{Option, option_map, option_to_list, remove, sum_by}
 use Rattle.std.proofs.lemmas.Grind.{common_steps}
 use Rattle.fy_cluster.specs.History.{BegunRecord}

@@ -1,15 +1,10 @@
 -- whether an entry may come next
-use Rattle.std.proofs.Common.{◌≡◌, ◌↔◌, ℕ, ◌+◌, ◌<◌, ◌≤◌, Bool, true, false, List, [], ◌∷◌, ◌++◌, length, take, get_or, IsTrue, sym, ◌∙◌, subst, arith}
-use Rattle.std.specs.Bool.{Decides}
+use Rattle.std.proofs.Common.{◌≡◌, ◌↔◌, ℕ, ◌+◌, ◌<◌, Bool, true, false, List, [], ◌∷◌, ◌++◌, length, take, get_or, IsTrue, sym, ◌∙◌, subst, arith}
 use Rattle.std.proofs.lemmas.Bool.{false≢true}
 use Rattle.std.proofs.lemmas.List.{length-take-le}
-use Rattle.fy_acts.specs.declared.reply.Reply.{Reply}
 use Rattle.fy_acts.specs.declared.entry.Entry.{Entry}
 use Rattle.fy_acts.specs.declared.version.Version.{Version}
 use Rattle.fy_cluster.specs.Setup.{Setup}
-use Rattle.fy_cluster.specs.Execution.{Execution}
-use Rattle.fy_cluster.specs.History.{History, step_of, after, history}
-use Rattle.fy_cluster.specs.Replies.{reply}
 use Rattle.fy_cluster.specs.Versions.{LegalUnder, NextLegalUnder}
 use Rattle.fy_acts.specs.Versions.{knows}
 use Rattle.fy_replay.specs.Check.{IsFirstBad}

@@ -15,7 +15,6 @@ use crate::teams::{members_of, teams_of_records};
 use crate::writes::unsynced;
 use fy_acts::{Act, Entry};
 use fy_cluster::effects::{is_accepted, target_of};
-use fy_kinds::Target;
 use fy_locality::{ProcId, ProcSet};
 use fy_net::Body;
 use std::alloc::{AllocError, Global};

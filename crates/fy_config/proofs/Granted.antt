@@ -13,7 +13,7 @@ use Rattle.fy_config.specs.declared.given.GivenGrant.{GivenGrant}
 use Rattle.fy_config.specs.Given.{has_name, grant_given, actor_given}
 use Rattle.fy_config.specs.Config.{is_bad_actor, grants_of}
 use Rattle.fy_config.specs.Named.{grant_by, have_scopes}
-use Rattle.fy_config.proofs.Places.{NotYet, not_yet_none, not_yet_more, position_here, position_none, take_at, kept_at}
+use Rattle.fy_config.proofs.Places.{NotYet, not_yet_more, position_here, position_none, take_at, kept_at}
 
 abbrev Actor : Type 0
 Actor = Role × List (Members × Scope)

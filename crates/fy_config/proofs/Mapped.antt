@@ -1,9 +1,9 @@
 -- processes that are put into a map one after another
-use Rattle.std.proofs.Common.{◌≡◌, ◌∙◌, ◌+◌, ◌<◌, ◌≤◌, ℕ, Bool, true, false, cond, not, List, [], ◌∷◌, ◌++◌, ◌||◌, leb, subst, length, take, map, bytes_eq, Option, Some, None, refl, sym, ap, arith}
+use Rattle.std.proofs.Common.{◌≡◌, ◌∙◌, ◌+◌, ◌<◌, ℕ, Bool, true, false, cond, not, List, [], ◌∷◌, ◌++◌, ◌||◌, leb, subst, length, take, map, bytes_eq, Option, Some, None, refl, sym, ap, arith}
 use Rattle.std.specs.Prelude.{slice_get, IfSome, IfErr, Result, Ok, Err}
 use Rattle.std.specs.List.{list_any}
 use Rattle.std.specs.Set.{is_member}
-use Rattle.std.proofs.lemmas.List.{length_push, take_all, length-map}
+use Rattle.std.proofs.lemmas.List.{length_push}
 use Rattle.std.proofs.lemmas.Option.{cond_some}
 use Rattle.std.proofs.lemmas.Slice.Eq.{bytes_eq-Decides}
 use Rattle.std.proofs.lemmas.Bool.Decides.{same_from_decides, nat_tests}
@@ -18,7 +18,7 @@ use Rattle.fy_locality.specs.declared.locality.Locality.{Locality}
 use Rattle.fy_config.specs.Given.{process_given}
 use Rattle.fy_config.specs.Config.{first_index, is_bad_process}
 use Rattle.fy_config.specs.Named.{is_bad_given}
-use Rattle.fy_config.proofs.Places.{Passed, passed_none, passed_more, passed_here, passed_all, take_at, kept_at, any_at, some_at}
+use Rattle.fy_config.proofs.Places.{Passed, passed_more, passed_here, take_at, kept_at, any_at, some_at}
 
 -- a name is among those of the processes exactly where one of them has it
 pub taken_is :

@@ -1,5 +1,5 @@
 -- protections that are put one after another
-use Rattle.std.proofs.Common.{◌≡◌, ◌∙◌, ◌+◌, ◌≤◌, ℕ, Bool, true, false, cond, not, List, [], ◌∷◌, ◌++◌, ◌||◌, ◌&&◌, eqb, subst, length, take, map, get_or, Option, Some, None, refl, sym, ap, arith}
+use Rattle.std.proofs.Common.{◌≡◌, ◌∙◌, ◌+◌, ℕ, Bool, true, false, cond, not, List, [], ◌∷◌, ◌++◌, ◌||◌, ◌&&◌, eqb, subst, take, map, get_or, Option, Some, None, refl, sym, ap}
 use Rattle.std.specs.Prelude.{slice_get, option_and_then, bytes_eq, unwrap_or}
 use Rattle.std.specs.Ordering.{nat_cmp}
 use Rattle.std.specs.Cmp.{unsigned_tied}
@@ -7,7 +7,7 @@ use Rattle.std.specs.FinSet as sets
 use Rattle.std.specs.List.{list_any}
 use Rattle.std.specs.Option.{option_eq, option_map_or}
 use Rattle.std.proofs.lemmas.Cmp.{nat_cmp_total, nat_list_eq_equiv}
-use Rattle.std.proofs.lemmas.List.{take_all, length-map, map-append}
+use Rattle.std.proofs.lemmas.List.{map-append}
 use Rattle.std.proofs.lemmas.List.Folds.{list_any-append}
 use Rattle.std.proofs.lemmas.List.Quantifiers.{position-Some}
 use Rattle.std.proofs.lemmas.Option.{slice_get-get_or}
@@ -22,7 +22,7 @@ use Rattle.fy_cluster.specs.declared.config.Protection.{Protection}
 use Rattle.fy_config.specs.declared.given.GivenProtection.{GivenProtection}
 use Rattle.fy_config.specs.Given.{name_given, protection_given}
 use Rattle.fy_config.specs.Config.{first_index, is_bad_process, is_bad_protection, index_of, number_of, protection_in}
-use Rattle.fy_config.proofs.Places.{Passed, passed_none, passed_more, passed_here, passed_all, no_place, take_at, kept_at, any_at, some_at, any_alike, none_at}
+use Rattle.fy_config.proofs.Places.{Passed, passed_none, passed_more, passed_here, no_place, take_at, kept_at, any_at, some_at, any_alike, none_at}
 
 abbrev Spelt : Type 0
 Spelt = List ℕ × Members

@@ -1,7 +1,7 @@
 -- sets of kinds put together
 use Rattle.std.proofs.Common.{◌≡◌, ◌<◌, ◌+◌, ℕ, length, drop, get_or, ◌||◌, List, ◌∷◌, Option, Some, None, option_map, Bool, true, false, refl, ap, ◌∙◌, sym}
 use Rattle.fy_kinds.specs.Members.{Members}
-use Rattle.fy_kinds.specs.Kinds.{in_either, no_deed}
+use Rattle.fy_kinds.specs.Kinds.{in_either}
 use Rattle.toml.specs.View.{view, items_view}
 use Rattle.toml.specs.declared.value.Value.{Value}
 use Rattle.fy_locality.specs.Chain.{◌>>=◌}

@@ -7,7 +7,6 @@ use Rattle.toml.specs.Data.{Data, Items, no_items, item, Members as Entries, no_
 use Rattle.fy_locality.specs.Chain.{◌>>=◌}
 use Rattle.fy_locality.specs.Key.{key_named}
 use Rattle.fy_locality.specs.Locality.{locality_of}
-use Rattle.fy_locality.specs.declared.key.Key.{Key}
 use Rattle.fy_locality.specs.declared.locality.Locality.{Locality}
 use Rattle.fy_kinds.specs.Kinds.{no_deed, in_either, set_named}
 use Rattle.fy_kinds.specs.Members.{Members}

@@ -379,13 +379,13 @@ refused_for : {from : Execution} {old left before out : Option (List ℕ)}
 refused_for {from} {old} {left} {before} {out} {execution} {now} {number} {room} line next short _ has is reads keeps (HasNoAnswer.faulty fault faulty kept) =
     refused_faulty fault (Appends before short) has is (faulty_there left next line fault reads faulty)
     (Appends-kept before out short (lines_of_entries has.made) has.written keeps)
-refused_for {from} {old} {left} {before} {out} {execution} {now} {number} {room} line next short _ has is reads keeps (HasNoAnswer.unread kept) = tt
+refused_for {from} {old} {left} {before} {out} {execution} {now} {number} {room} line next short _ has is reads keeps (HasNoAnswer.unread fits kept) = tt
 refused_for {from} {old} {left} {before} {out} {execution} {now} {number} {room} line next short _ has is reads keeps (HasNoAnswer.no_entry command spelled _ (HasNoEntry.full full kept)) =
     stops_before from old left before out execution JournalFull (Appends before short) has
     (is_full (room_in from) left next (length has.made) command
     (gives left next line command reads spelled) (no_room has full))
     (Appends-kept before out short (lines_of_entries has.made) has.written keeps)
-refused_for {from} {old} {left} {before} {out} {execution} {now} {number} {room} line next short _ has is reads keeps (HasNoAnswer.no_entry command spelled _ (HasNoEntry.no_memory kept)) = tt
+refused_for {from} {old} {left} {before} {out} {execution} {now} {number} {room} line next short _ has is reads keeps (HasNoAnswer.no_entry command spelled _ (HasNoEntry.no_memory has_room kept)) = tt
 refused_for {from} {old} {left} {before} {out} {execution} {now} {number} {room} line next short _ has is reads keeps (HasNoAnswer.no_entry command spelled _ (HasNoEntry.unwritten made long)) = tt
 
 -- a line that was read has no answer, or its answer isn't out whole

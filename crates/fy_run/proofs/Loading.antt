@@ -1,13 +1,11 @@
 -- what is known of the bytes of a script
-use Rattle.std.proofs.Common.{◌≡◌, ℕ, List, Option, Err, sym, subst}
+use Rattle.std.proofs.Common.{◌≡◌, ℕ, List, Option, Err}
 use Rattle.std.specs.Prelude.{IfSome}
 use Rattle.fy_audit.specs.Script.{ScriptOf, ScriptAnswers}
 use Rattle.fy_audit.specs.declared.script.ScriptFault.{ScriptFault}
 use Rattle.fy_audit.specs.declared.script.ScriptFault.TheVariants.{TooLong, Line, NoMemory}
-use Rattle.fy_audit.specs.declared.script.TheConstants.{MOST_SCRIPT_BYTES}
-use Rattle.fy_streams.specs.Stops.{script_stop, IsRunStop, IsUnread}
-use Rattle.fy_streams.specs.declared.stop.Stop.{Stop}
-use Rattle.fy_streams.specs.declared.stop.Stop.TheVariants.{Script, JournalFull, Read, Write}
+use Rattle.fy_streams.specs.Stops.{script_stop, IsRunStop}
+use Rattle.fy_streams.specs.declared.stop.Stop.TheVariants.{JournalFull, Read, Write}
 use Rattle.fy_streams.proofs.Loading.{if_known}
 use Rattle.fy_run.specs.RunTexts.{IfScriptFault}
 
@@ -40,31 +38,3 @@ pub script_unwritten : (fault : ScriptFault) → script_stop fault ≡ Write →
 script_unwritten TooLong is = cc
 script_unwritten (Line number fault) is = cc
 script_unwritten NoMemory is = cc
-
--- where the script can't be read whole: its fault is told, it is a stop of run's own, and none of a
--- full journal or of a writer
-pub unread_told : {known left : Option (List ℕ)} {stop : Stop} →
-    IsUnread known left MOST_SCRIPT_BYTES (Script TooLong) stop →
-    IfScriptFault stop (λ f. IfSome known (λ bytes. ScriptOf bytes (Err f)))
-unread_told {known} {left} {stop} (IsUnread.long is more) =
-    subst (λ s. IfScriptFault s (λ f. IfSome known (λ bytes. ScriptOf bytes (Err f)))) (sym is) more
-unread_told {known} {left} {stop} (IsUnread.read is within) =
-    subst (λ s. IfScriptFault s (λ f. IfSome known (λ bytes. ScriptOf bytes (Err f)))) (sym is) tt
-unread_told {known} {left} {stop} (IsUnread.no_memory is) =
-    subst (λ s. IfScriptFault s (λ f. IfSome known (λ bytes. ScriptOf bytes (Err f)))) (sym is) tt
-
-pub unread_own : {known left : Option (List ℕ)} {stop : Stop} →
-    IsUnread known left MOST_SCRIPT_BYTES (Script TooLong) stop → IsRunStop stop
-unread_own {known} {left} {stop} (IsUnread.long is more) = subst IsRunStop (sym is) tt
-unread_own {known} {left} {stop} (IsUnread.read is within) = subst IsRunStop (sym is) tt
-unread_own {known} {left} {stop} (IsUnread.no_memory is) = subst IsRunStop (sym is) tt
-
-pub unread_no_other : {known left : Option (List ℕ)} {stop : Stop} →
-    IsUnread known left MOST_SCRIPT_BYTES (Script TooLong) stop →
-    (stop ≡ JournalFull → ⊥) × (stop ≡ Write → ⊥)
-unread_no_other {known} {left} {stop} (IsUnread.long is more) =
-    (λ full. let bad : ⊥ = cc in bad, λ write. let bad : ⊥ = cc in bad)
-unread_no_other {known} {left} {stop} (IsUnread.read is within) =
-    (λ full. let bad : ⊥ = cc in bad, λ write. let bad : ⊥ = cc in bad)
-unread_no_other {known} {left} {stop} (IsUnread.no_memory is) =
-    (λ full. let bad : ⊥ = cc in bad, λ write. let bad : ⊥ = cc in bad)

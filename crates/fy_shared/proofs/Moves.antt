@@ -1,5 +1,5 @@
 -- each step keeps the rule of the turnstile
-use Rattle.std.proofs.Common.{◌≡◌, ◌≢◌, ℕ, zero, suc, ◌+◌, ◌%◌, ◌^◌, ◌<◌, ◌≤◌, eqb, List, [], ◌∷◌, ◌++◌, length, length-set, get_or, set, nat_lt, if◌then◌else◌, Bool, true, false, true≢false, sym, refl, ap, ◌∙◌, subst, ⊎_elim, ◌⊎◌, inl, inr, arith, Option, Some, None, eq-eqb, ne_eqb}
+use Rattle.std.proofs.Common.{◌≡◌, ◌≢◌, ℕ, zero, suc, ◌+◌, ◌%◌, ◌^◌, ◌<◌, ◌≤◌, eqb, List, [], ◌∷◌, ◌++◌, length, length-set, get_or, set, nat_lt, if◌then◌else◌, Bool, true, false, true≢false, sym, refl, ap, ◌∙◌, subst, ⊎_elim, ◌⊎◌, arith, Option, Some, eq-eqb, ne_eqb}
 use Rattle.std.proofs.lemmas.Bool.Decides.{nat_tests}
 use mathlib.Core.Logic.{dite}
 use mathlib.Core.Option.{none, some, some-ne-none, some-injective}
@@ -7,7 +7,7 @@ use mathlib.Core.Option as maybe
 use native.Mathlib.Decide.{ℕ_discrete}
 use lib.ListN.{get_elem?}
 use prog.Atomic.{either}
-use Rattle.atomic_table.specs.Table.{State, Me, step, Act, keeps, takes, gives, stepped, Allows, Splits, Joins, opening}
+use Rattle.atomic_table.specs.Table.{State, step, keeps, takes, gives, Allows, Splits, Joins, opening}
 use Rattle.atomic_table.proofs.Lists.{at_set, at_snoc, set_here, set_else, set_again, one_turn}
 use Rattle.fy_acts.specs.declared.entry.Entry.{Entry}
 use Rattle.fy_cluster.specs.Setup.{Setup}
@@ -15,7 +15,7 @@ use Rattle.fy_cluster.specs.Replies.{Legal}
 use Rattle.fy_actors.specs.Desk.{DeskState, entries_by, OnlyBy}
 use Rattle.fy_shared.specs.declared.view.View.{View}
 use Rattle.fy_shared.specs.Yard.{StartsWith, actor_count}
-use Rattle.fy_shared.specs.Turnstile.{desk_with, Joined, keys, NotAmong, Distinct, desk_at_home, total, TurnstileState, Fits, Busy, slot_of, KeepsTurns, SeatView, first_view, with_ticket, serving_at, after_count, without_ticket, after_split, next_seat, note_of, spent_view, told_by, key_of, joined_by, longer, after_meeting, Met, journal_in, Drawn, Looked, Counted, Advanced}
+use Rattle.fy_shared.specs.Turnstile.{desk_with, Joined, keys, NotAmong, Distinct, desk_at_home, total, TurnstileState, Fits, Busy, slot_of, KeepsTurns, SeatView, first_view, with_ticket, serving_at, after_count, without_ticket, after_split, next_seat, note_of, spent_view, told_by, key_of, joined_by, after_meeting, Met, journal_in, Drawn, Looked, Counted, Advanced}
 use Rattle.fy_shared.proofs.Journals.{by_else, begins_none, begins_more, begins_all, between, whole}
 
 -- the function f, with x at k

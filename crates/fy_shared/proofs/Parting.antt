@@ -10,7 +10,7 @@ use Rattle.fy_actors.specs.Parts.{Part, KeepsTo, Tells, TurnsKeepTo, OthersChang
 use Rattle.fy_actors.specs.Parts.Part.{Unspecified}
 use Rattle.fy_actors.proofs.Playing.{by_append}
 use Rattle.fy_shared.specs.Yard.{Yard, SeatState, StartsWith, IsSameSeat, SeesMore, Turned}
-use Rattle.fy_shared.specs.Posts.{MaySeeMore, ShutAt, EndsSo, Ran}
+use Rattle.fy_shared.specs.Posts.{MaySeeMore, EndsSo, Ran}
 use Rattle.fy_shared.specs.AtDesk.{desk_of}
 use Rattle.fy_shared.specs.Parts.{PlaysAt, KeepsPart}
 use Rattle.fy_shared.specs.declared.posts.End.{End}

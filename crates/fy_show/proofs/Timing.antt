@@ -17,9 +17,7 @@ use Rattle.fy_check.specs.CheckTexts.{IsFound}
 use Rattle.fy_check.specs.declared.check.Finding.{Finding}
 use Rattle.fy_streams.specs.declared.stop.Stop.{Stop}
 use Rattle.fy_streams.specs.declared.stop.Stop.TheVariants.{JudgeTooLong, JudgeLine, Config, Script, JournalFull, Audit as AuditStop, Events, SwarmClose, Read, Write, NoMemory}
-use Rattle.fy_events.specs.declared.TheConstants.{MOST_EVENTS_BYTES}
-use Rattle.fy_events.specs.declared.events.EventsFault.TheVariants.{TooLong}
-use Rattle.fy_streams.specs.Stops.{IfAuditFault, IfEventsFault, IsTimesStop, IsUnread}
+use Rattle.fy_streams.specs.Stops.{IfAuditFault, IfEventsFault}
 use Rattle.fy_picture.specs.Recording.{Recording}
 use Rattle.fy_svg.specs.Documents.{IsDocument}
 use Rattle.fy_check.specs.Inputs.{IsReadInto}
@@ -139,41 +137,3 @@ is_held (Some bytes) read begun held is has =
       read = subst (λ es. AuditOf bytes (Ok (let a : Audit = record { version = held.journal.version; entries = es } in a))) (sym has.holds.0) moved;
       count = has.count_is ∙ sym (ap (λ (es : List Entry). length es) has.holds.0);
     }
-
--- ---- a file of events that can't be read whole
-
--- its fault is told
-pub unread_told : {known left : Option (List ℕ)} {stop : Stop} →
-    IsUnread known left MOST_EVENTS_BYTES (Events TooLong) stop →
-    IfEventsFault stop (λ fault. (count : ℕ) → IfSome known (λ lines. EventsOf count lines (Err fault)))
-unread_told {known} {left} {stop} (IsUnread.long is more) =
-    subst (λ s. IfEventsFault s (λ fault. (count : ℕ) → IfSome known (λ lines. EventsOf count lines (Err fault))))
-    (sym is) (λ count. more)
-unread_told {known} {left} {stop} (IsUnread.read is within) =
-    subst (λ s. IfEventsFault s (λ fault. (count : ℕ) → IfSome known (λ lines. EventsOf count lines (Err fault))))
-    (sym is) tt
-unread_told {known} {left} {stop} (IsUnread.no_memory is) =
-    subst (λ s. IfEventsFault s (λ fault. (count : ℕ) → IfSome known (λ lines. EventsOf count lines (Err fault))))
-    (sym is) tt
-
--- it is none of an audit, but a stop of show's own, and not that of a writer
-pub unread_no_audit : {known left : Option (List ℕ)} {stop : Stop} →
-    IsUnread known left MOST_EVENTS_BYTES (Events TooLong) stop → IfAuditFault stop (λ _. ⊥)
-unread_no_audit {known} {left} {stop} (IsUnread.long is more) =
-    subst (λ s. IfAuditFault s (λ _. ⊥)) (sym is) tt
-unread_no_audit {known} {left} {stop} (IsUnread.read is within) =
-    subst (λ s. IfAuditFault s (λ _. ⊥)) (sym is) tt
-unread_no_audit {known} {left} {stop} (IsUnread.no_memory is) =
-    subst (λ s. IfAuditFault s (λ _. ⊥)) (sym is) tt
-
-pub unread_own : {known left : Option (List ℕ)} {stop : Stop} →
-    IsUnread known left MOST_EVENTS_BYTES (Events TooLong) stop → IsTimesStop stop
-unread_own {known} {left} {stop} (IsUnread.long is more) = subst IsTimesStop (sym is) tt
-unread_own {known} {left} {stop} (IsUnread.read is within) = subst IsTimesStop (sym is) tt
-unread_own {known} {left} {stop} (IsUnread.no_memory is) = subst IsTimesStop (sym is) tt
-
-pub unread_unwritten : {known left : Option (List ℕ)} {stop : Stop} →
-    IsUnread known left MOST_EVENTS_BYTES (Events TooLong) stop → stop ≡ Write → ⊥
-unread_unwritten {known} {left} {stop} (IsUnread.long is more) write = let bad : ⊥ = cc in bad
-unread_unwritten {known} {left} {stop} (IsUnread.read is within) write = let bad : ⊥ = cc in bad
-unread_unwritten {known} {left} {stop} (IsUnread.no_memory is) write = let bad : ⊥ = cc in bad

@@ -1,17 +1,16 @@
 -- what fault actors made so far
-use Rattle.std.proofs.Common.{arith, ◌≡◌, ◌≢◌, ◌∙◌, ◌≤◌, ◌<◌, ◌+◌, ◌==◌, ℕ, zero, suc, Bool, true, false, List, [], ◌∷◌, ◌++◌, length, map, refl, sym, ap, subst, append-nil, inl, inr}
-use Rattle.std.specs.Prelude.{◌⊎◌, Option, Some, None, slice_get, slice_set, nat_le, if◌then◌else◌}
+use Rattle.std.proofs.Common.{arith, ◌≡◌, ◌≢◌, ◌∙◌, ◌<◌, ◌+◌, ◌==◌, ℕ, zero, suc, Bool, true, false, List, [], ◌∷◌, ◌++◌, length, map, refl, sym, ap, subst, append-nil, inl, inr}
+use Rattle.std.specs.Prelude.{◌⊎◌, Some, None, slice_get, slice_set, nat_le, if◌then◌else◌}
 use Rattle.std.specs.List.{filter}
 use Rattle.std.proofs.lemmas.Bool.{and_parts}
 use Rattle.std.proofs.lemmas.Bool.Decides.{nat_tests}
 use Rattle.std.proofs.lemmas.List.Elements.{filter-append}
 use Rattle.std.proofs.lemmas.Option.{slice_get_past, slice_get_within}
 use Rattle.rand_chacha.specs.ChaCha.{ChaCha}
-use Rattle.fy_acts.specs.declared.act.Act.{Act}
 use Rattle.fy_acts.specs.declared.entry.Entry.{Entry}
 use Rattle.fy_actors.specs.Desk.{entries_by}
 use Rattle.fy_cluster.specs.Setup.{Setup, is_between, is_in_range}
-use Rattle.fy_cluster.specs.Execution.{Execution, next_entry, entered}
+use Rattle.fy_cluster.specs.Execution.{Execution, next_entry}
 use Rattle.fy_cluster.specs.declared.role.Role.{Role}
 use Rattle.fy_cluster.specs.declared.role.Role.TheVariants.{Fault}
 use Rattle.fy_players.specs.declared.draws.Words.{Words}
@@ -22,8 +21,8 @@ use Rattle.fy_players.specs.declared.player.Player.{Player}
 use Rattle.fy_players.specs.Draws.{stream_of, words_of}
 use Rattle.fy_players.specs.Faults.{FaultState, fault_of, readied, one_turn_more}
 use Rattle.fy_players.specs.Orders.{StrikesOnce, StrikesInTurn, AreOrders}
-use Rattle.fy_players.specs.Turns.{player_of, own_or_none, speaker, speaker_now, words_now, part_now, number_of, striker, TakesTurn}
-use Rattle.fy_simulate.specs.Simulate.{Stage, players_from, opening, ActorTakes, OneTurn, Turns, acts_by}
+use Rattle.fy_players.specs.Turns.{player_of, speaker, speaker_now, words_now, part_now, number_of, striker, TakesTurn}
+use Rattle.fy_simulate.specs.Simulate.{Stage, players_from, opening, OneTurn, Turns, acts_by}
 use Rattle.fy_simulate.specs.Simulate.Turns.{none, more}
 
 -- ---- lists

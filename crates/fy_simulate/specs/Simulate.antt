@@ -1,5 +1,5 @@
 -- what a simulated journal is
-use Rattle.std.specs.Prelude.{◌≡◌, ℕ, zero, suc, ◌%◌, min, List, [], ◌∷◌, ◌++◌, length, map, replicate, Some, slice_get, slice_set}
+use Rattle.std.specs.Prelude.{◌≡◌, ℕ, suc, ◌%◌, min, List, [], ◌∷◌, ◌++◌, length, map, replicate, Some, slice_get, slice_set}
 use Rattle.rand_chacha.specs.ChaCha.{ChaCha}
 use Rattle.fy_acts.specs.declared.act.Act.{Act}
 use Rattle.fy_acts.specs.declared.entry.Entry.{Entry}

@@ -1,21 +1,15 @@
 -- the parts of acts are found as they are defined
-use Rattle.std.proofs.Common.{◌≡◌, ◌≢◌, ℕ, ◌+◌, ◌<◌, suc, Bool, true, false, cond, ◌||◌, List, ◌∷◌, length, drop, get_or, Option, Some, None, option_map, MatchOption, nat_eq, inl, inr, refl, sym, ap, subst, ◌∙◌, arith}
+use Rattle.std.proofs.Common.{◌≡◌, ℕ, ◌+◌, ◌<◌, suc, Bool, true, false, cond, ◌||◌, List, ◌∷◌, length, drop, get_or, Option, Some, None, option_map, refl, sym, ap, ◌∙◌, arith}
 use Rattle.std.proofs.Math.Seq.{drop-cons}
-use Rattle.std.proofs.lemmas.Bool.{cases_Bool}
-use Rattle.std.specs.Cmp.Lexicographic.{pointwise, same_text}
 use Rattle.serde_json.specs.View.{view, items_view}
 use Rattle.serde_json.specs.declared.value.Value.{Value}
-use Rattle.fy_locality.specs.Key.{key_text}
 use Rattle.fy_locality.specs.declared.ProcId.{ProcId}
-use Rattle.fy_locality.specs.declared.key.Key.{Key}
-use Rattle.fy_locality.specs.declared.key.Key.TheVariants.{Process, Machine, Zone, DataHall, DataCenter}
 use Rattle.fy_kinds.specs.Kinds.{Deed, only, in_either}
 use Rattle.fy_kinds.specs.Members.{Members}
 use Rattle.fy_team.specs.Members.{are_members}
 use Rattle.fy_team.specs.Standing.{MembersTested}
 use Rattle.fy_team.specs.Teams.{AreMembers}
 use Rattle.fy_locality.specs.Chain.{◌>>=◌}
-use Rattle.fy_locality.specs.Key.{key_named}
 use Rattle.fy_spelling.specs.Candidate.{deed_from, deeds_from}
 use Rattle.fy_spelling.specs.Command.{gathered}
 

@@ -1,12 +1,11 @@
 -- what a line comes to, by what is found in its value
-use Rattle.std.proofs.Common.{◌≡◌, ℕ, ◌≤◌, List, [], length, codes, Some, None, Result, Ok, Err, refl, sym, ap, subst, ◌∙◌}
+use Rattle.std.proofs.Common.{◌≡◌, ℕ, ◌≤◌, List, [], length, codes, Some, None, Ok, Err, refl, sym, ap, subst, ◌∙◌}
 use Rattle.serde_json.specs.Data.{Data}
 use Rattle.fy_spelling.specs.Candidate.{command_from, IsCheckedAct}
 use Rattle.fy_spelling.specs.Command.{asking, IsJson, ParsesAs, LineOf}
 use Rattle.fy_spelling.specs.Fits.{FitsTarget, IsU64}
 use Rattle.fy_spelling.specs.Values.{under, order_value}
 use Rattle.fy_acts.specs.declared.act.Act.{Act}
-use Rattle.fy_spelling.specs.declared.command.Command.{Command}
 use Rattle.fy_spelling.specs.declared.command.LineFault.{LineFault}
 use Rattle.fy_spelling.specs.declared.command.LineFault.TheVariants.{Syntax}
 use Rattle.fy_spelling.specs.declared.command.TheConstants.{MOST_LINE_BYTES}

@@ -1,6 +1,7 @@
 -- what a value tells of a reply or an entry, if anything. More is found than is written: whoever
 -- finds something writes it again and compares
 use Rattle.std.specs.Prelude.{ℕ, List, codes, if◌then◌else◌, bytes_eq, Option, Some, None, option_map}
+use Rattle.std.specs.Option.{option_or}
 use Rattle.serde_json.specs.Data.{Data}
 use Rattle.serde_json.specs.Find.{as_bool, as_object, as_str, at}
 use Rattle.fy_locality.specs.declared.ProcId.{ProcId}
@@ -58,9 +59,9 @@ refusal_of_processes word =
     else if bytes_eq word (codes "IsUp") then Some IsUp
     else None
 
--- those, or refusals that speak of teams and records
-abbrev pub refusal_up_to_teams : List ℕ → Option Refusal
-refusal_up_to_teams word =
+-- refusals that speak of teams and records
+abbrev pub refusal_of_teams : List ℕ → Option Refusal
+refusal_of_teams word =
     if bytes_eq word (codes "TooMany") then Some TooMany
     else if bytes_eq word (codes "NoPolicy") then Some NoPolicy
     else if bytes_eq word (codes "NoTeam") then Some NoTeam
@@ -68,18 +69,18 @@ refusal_up_to_teams word =
     else if bytes_eq word (codes "NoRecord") then Some NoRecord
     else if bytes_eq word (codes "NotMember") then Some NotMember
     else if bytes_eq word (codes "Acked") then Some Acked
-    else refusal_of_processes word
+    else None
 
--- those, or refusals that speak of actors and the clock
-abbrev pub refusal_up_to_actors : List ℕ → Option Refusal
-refusal_up_to_actors word =
+-- refusals that speak of actors and the clock
+abbrev pub refusal_of_actors : List ℕ → Option Refusal
+refusal_of_actors word =
     if bytes_eq word (codes "Stranger") then Some Stranger
     else if bytes_eq word (codes "WrongRole") then Some WrongRole
     else if bytes_eq word (codes "ClockEnd") then Some ClockEnd
     else if bytes_eq word (codes "NoActor") then Some NoActor
     else if bytes_eq word (codes "Full") then Some Full
     else if bytes_eq word (codes "NoSuch") then Some NoSuch
-    else refusal_up_to_teams word
+    else None
 
 -- any refusal
 abbrev pub refusal_by : List ℕ → Data → Option Refusal
@@ -89,7 +90,8 @@ refusal_by word d =
     else if bytes_eq word (codes "NoCopy") then Some NoCopy
     else if bytes_eq word (codes "IsMember") then Some IsMember
     else if bytes_eq word (codes "NotDestroyed") then Some NotDestroyed
-    else refusal_up_to_actors word
+    else option_or (option_or (refusal_of_actors word) (refusal_of_teams word))
+    (refusal_of_processes word)
 
 -- the refusal of a list
 abbrev pub refusal_from : Data → Option Refusal

@@ -1,14 +1,13 @@
 -- what is known of the bytes of a cluster file
-use Rattle.std.proofs.Common.{◌≡◌, ◌∙◌, ℕ, List, Option, Some, None, Err, sym, subst}
+use Rattle.std.proofs.Common.{◌≡◌, ◌∙◌, ◌<◌, ℕ, List, length, Option, Some, None, Err, sym, subst}
 use Rattle.std.specs.Prelude.{IfSome, Result}
 use Rattle.fy_config.specs.Config.{ConfigOf, UnlessOom}
 use Rattle.fy_config.specs.declared.fault.ConfigFault.{ConfigFault}
 use Rattle.fy_config.specs.declared.fault.ConfigFault.TheVariants.{TooLong, Toml, Field, Limit, Name, Policy, PolicyUnmet, NoMemory}
 use Rattle.fy_lines.specs.Readings.{ReadsAtMost}
-use Rattle.fy_config.specs.declared.limits.TheConstants.{MOST_FILE_BYTES}
 use Rattle.fy_streams.specs.Stops.{config_stop, IfConfigFault, IsConfigStop, IsUnread}
 use Rattle.fy_streams.specs.declared.stop.Stop.{Stop}
-use Rattle.fy_streams.specs.declared.stop.Stop.TheVariants.{Config, Read}
+use Rattle.fy_streams.specs.declared.stop.Stop.TheVariants.{Read, NoMemory as NoMemoryStop}
 
 -- what holds of the bytes that were read holds of those that were to come
 pub if_known : (known : Option (List ℕ)) (read : List ℕ) (P : List ℕ → Type 0) →
@@ -51,23 +50,17 @@ fault_unread (Policy index) is = cc
 fault_unread (PolicyUnmet index) is = cc
 fault_unread NoMemory is = cc
 
--- where the file can't be read whole: its fault is told, it is a stop of a cluster file, and after
--- a read fault no more was read than it may have
-pub unread_told : {known left : Option (List ℕ)} {stop : Stop} →
-    IsUnread known left MOST_FILE_BYTES (Config TooLong) stop →
-    IfConfigFault stop (λ f. IfSome known (λ bytes. ConfigOf bytes (Err f)))
-unread_told {known} {left} {stop} (IsUnread.long is more) =
-    subst (λ s. IfConfigFault s (λ f. IfSome known (λ bytes. ConfigOf bytes (Err f)))) (sym is) more
-unread_told {known} {left} {stop} (IsUnread.read is within) =
-    subst (λ s. IfConfigFault s (λ f. IfSome known (λ bytes. ConfigOf bytes (Err f)))) (sym is) tt
-unread_told {known} {left} {stop} (IsUnread.no_memory is) =
-    subst (λ s. IfConfigFault s (λ f. IfSome known (λ bytes. ConfigOf bytes (Err f)))) (sym is) tt
-
-pub unread_own : {known left : Option (List ℕ)} {stop : Stop} →
-    IsUnread known left MOST_FILE_BYTES (Config TooLong) stop → IsConfigStop stop
-unread_own {known} {left} {stop} (IsUnread.long is more) = subst IsConfigStop (sym is) tt
-unread_own {known} {left} {stop} (IsUnread.read is within) = subst IsConfigStop (sym is) tt
-unread_own {known} {left} {stop} (IsUnread.no_memory is) = subst IsConfigStop (sym is) tt
+-- what holds of the stop for too many bytes, where they are too many, and of the other two holds of
+-- each stop of an input that isn't read whole
+pub of_unread : {known left : Option (List ℕ)} {most : ℕ} {too_long stop : Stop} (P : Stop → Type 0) →
+    (IfSome known (λ bytes. most < length bytes) → P too_long) → P Read → P NoMemoryStop →
+    IsUnread known left most too_long stop → P stop
+of_unread {known} {left} {most} {too_long} {stop} P long read no_memory (IsUnread.long is more) =
+    subst P (sym is) (long more)
+of_unread {known} {left} {most} {too_long} {stop} P long read no_memory (IsUnread.read is within) =
+    subst P (sym is) read
+of_unread {known} {left} {most} {too_long} {stop} P long read no_memory (IsUnread.no_memory is) =
+    subst P (sym is) no_memory
 
 -- of a reader that failed no more was read than it may give
 pub unread_within : {known left : Option (List ℕ)} {most : ℕ} {too_long stop : Stop} →

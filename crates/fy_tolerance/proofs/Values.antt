@@ -9,7 +9,7 @@ use Rattle.std.proofs.lemmas.Bool.Decides.{nat_tests}
 use Rattle.std.proofs.lemmas.Cmp.{nat_list_eq_equiv}
 use Rattle.fy_locality.specs.declared.locality.Locality.{Locality}
 use Rattle.fy_locality.specs.declared.key.Key.{Key}
-use Rattle.fy_locality.specs.Locality.{has_value, value_of}
+use Rattle.fy_locality.specs.Locality.{has_value}
 use Rattle.fy_policy.specs.Sat.{group, outside}
 use Rattle.fy_policy.specs.Counted.{number_of}
 use Rattle.fy_policy.proofs.Tallied.{number-le}

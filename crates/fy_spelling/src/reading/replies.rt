@@ -6,7 +6,7 @@
 //! `refusal_up_to_actors`, that with `refusal_up_to_teams`, and that with `refusal_of_processes`.
 ghost use Rattle.std.specs.Prelude.{◌≡◌, option_map};
 ghost use Rattle.serde_json.specs.View.{view};
-ghost use Rattle.fy_spelling.specs.Replied.{first_word, second_number, second_process, rule_by, rule_from, refusal_of_processes, refusal_up_to_teams, refusal_up_to_actors, refusal_by, refusal_from, verdict_from, begun_from, synced_from, numbers_by, reply_by, reply_from};
+ghost use Rattle.fy_spelling.specs.Replied.{first_word, second_number, second_process, rule_by, rule_from, refusal_of_processes, refusal_of_teams, refusal_of_actors, refusal_by, refusal_from, verdict_from, begun_from, synced_from, numbers_by, reply_by, reply_from};
 
 use crate::parts::{kind_of, process_of, sole, two, u32_of, u64_of};
 use crate::{Refusal, Reply};
@@ -88,9 +88,9 @@ fn refusal_of_processes(word: &str) -> Option<Refusal>
     }
 }
 
-/// A refusal that speaks of teams and records, or one of processes: the last two of the chain.
-fn refusal_up_to_teams(word: &str) -> Option<Refusal>
-    ensures { result ≡ refusal_up_to_teams word.now }
+/// A refusal that speaks of teams and records.
+fn refusal_of_teams(word: &str) -> Option<Refusal>
+    ensures { result ≡ refusal_of_teams word.now }
 {
     match word {
         "TooMany" => Some(Refusal::TooMany),
@@ -100,14 +100,13 @@ fn refusal_up_to_teams(word: &str) -> Option<Refusal>
         "NoRecord" => Some(Refusal::NoRecord),
         "NotMember" => Some(Refusal::NotMember),
         "Acked" => Some(Refusal::Acked),
-        _ => refusal_of_processes(word),
+        _ => None,
     }
 }
 
-/// Any refusal but those of copies, healing and with a number: one of actors and the clock, or of
-/// teams, records and processes.
-fn refusal_up_to_actors(word: &str) -> Option<Refusal>
-    ensures { result ≡ refusal_up_to_actors word.now }
+/// A refusal that speaks of actors and the clock.
+fn refusal_of_actors(word: &str) -> Option<Refusal>
+    ensures { result ≡ refusal_of_actors word.now }
 {
     match word {
         "Stranger" => Some(Refusal::Stranger),
@@ -116,7 +115,7 @@ fn refusal_up_to_actors(word: &str) -> Option<Refusal>
         "NoActor" => Some(Refusal::NoActor),
         "Full" => Some(Refusal::Full),
         "NoSuch" => Some(Refusal::NoSuch),
-        _ => refusal_up_to_teams(word),
+        _ => None,
     }
 }
 
@@ -136,7 +135,9 @@ fn refusal_by(word: &str, value: &Value) -> Option<Refusal>
         "NoCopy" => Some(Refusal::NoCopy),
         "IsMember" => Some(Refusal::IsMember),
         "NotDestroyed" => Some(Refusal::NotDestroyed),
-        _ => refusal_up_to_actors(word),
+        _ => refusal_of_actors(word)
+            .or(refusal_of_teams(word))
+            .or(refusal_of_processes(word)),
     }
 }
 

@@ -205,13 +205,8 @@ fn string_reply(line: &[u8]) -> Option<Reply>
     }
 }
 
-// A refusal without a number is told by its name. The names are asked for in a chain of four
-// functions, from processes over teams and actors to healing: each goes on with the next where it
-// hasn't the name, so the first answers for all four. The order of the chain is free.
-
-/// Any refusal without a number: one of processes and messages, or whatever `refusal_from_teams`
-/// finds.
-fn refusal_from_processes(name: &[u8]) -> Option<Refusal>
+/// A refusal of processes and messages.
+fn refusal_of_processes(name: &[u8]) -> Option<Refusal>
     ensures reads { IfSome result (λ refusal.
         refusal_text refusal ≡ codes ",\"reply\":{\"no\":[\"" ++ (name.now ++ codes "\"]}}")) }
     ensures fits { IfSome result (λ refusal. FitsRefusal refusal) }
@@ -231,12 +226,12 @@ fn refusal_from_processes(name: &[u8]) -> Option<Refusal>
     } else if is_exactly(name, "NetFull") {
         Some(Refusal::NetFull)
     } else {
-        refusal_from_teams(name)
+        None
     }
 }
 
-/// A refusal of teams and records, or whatever `refusal_from_actors` finds.
-fn refusal_from_teams(name: &[u8]) -> Option<Refusal>
+/// A refusal of teams and records.
+fn refusal_of_teams(name: &[u8]) -> Option<Refusal>
     ensures reads { IfSome result (λ refusal.
         refusal_text refusal ≡ codes ",\"reply\":{\"no\":[\"" ++ (name.now ++ codes "\"]}}")) }
     ensures fits { IfSome result (λ refusal. FitsRefusal refusal) }
@@ -256,12 +251,12 @@ fn refusal_from_teams(name: &[u8]) -> Option<Refusal>
     } else if is_exactly(name, "NoPolicy") {
         Some(Refusal::NoPolicy)
     } else {
-        refusal_from_actors(name)
+        None
     }
 }
 
-/// A refusal of actors and the clock, or whatever `refusal_of_healing` finds.
-fn refusal_from_actors(name: &[u8]) -> Option<Refusal>
+/// A refusal of actors and the clock.
+fn refusal_of_actors(name: &[u8]) -> Option<Refusal>
     ensures reads { IfSome result (λ refusal.
         refusal_text refusal ≡ codes ",\"reply\":{\"no\":[\"" ++ (name.now ++ codes "\"]}}")) }
     ensures fits { IfSome result (λ refusal. FitsRefusal refusal) }
@@ -279,11 +274,11 @@ fn refusal_from_actors(name: &[u8]) -> Option<Refusal>
     } else if is_exactly(name, "NoSuch") {
         Some(Refusal::NoSuch)
     } else {
-        refusal_of_healing(name)
+        None
     }
 }
 
-/// A refusal of copies, replacements and healing: the end of the chain.
+/// A refusal of copies, replacements and healing.
 fn refusal_of_healing(name: &[u8]) -> Option<Refusal>
     ensures reads { IfSome result (λ refusal.
         refusal_text refusal ≡ codes ",\"reply\":{\"no\":[\"" ++ (name.now ++ codes "\"]}}")) }
@@ -298,6 +293,24 @@ fn refusal_of_healing(name: &[u8]) -> Option<Refusal>
     } else {
         None
     }
+}
+
+/// A refusal without a number, by its name. No two groups share a name.
+fn refusal_by_name(name: &[u8]) -> Option<Refusal>
+    ensures reads { IfSome result (λ refusal.
+        refusal_text refusal ≡ codes ",\"reply\":{\"no\":[\"" ++ (name.now ++ codes "\"]}}")) }
+    ensures fits { IfSome result (λ refusal. FitsRefusal refusal) }
+{
+    if let Some(refusal) = refusal_of_processes(name) {
+        return Some(refusal);
+    }
+    if let Some(refusal) = refusal_of_teams(name) {
+        return Some(refusal);
+    }
+    if let Some(refusal) = refusal_of_actors(name) {
+        return Some(refusal);
+    }
+    refusal_of_healing(name)
 }
 
 /// A refusal that has a number.
@@ -319,7 +332,7 @@ fn refusal(line: &[u8]) -> Option<Refusal>
 {
     let (name, rest) = string_after(line, ",\"reply\":{\"no\":[\"")?;
     if is_exactly(rest, "]}}") {
-        refusal_from_processes(name)
+        refusal_by_name(name)
     } else {
         refusal_of_number(line)
     }

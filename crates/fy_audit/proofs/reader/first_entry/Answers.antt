@@ -1,4 +1,4 @@
-use Rattle.std.proofs.Common.{◌≤◌, ◌<◌, ◌∷◌, ◌++◌, length, arith, append-nil, sym, rules}
+use Rattle.std.proofs.Common.{◌≤◌, ◌<◌, ◌∷◌, length, append-nil, sym, rules}
 use Rattle.fy_spelling.specs.declared.command.TheConstants.{MOST_LINE_BYTES}
 use Rattle.fy_audit.proofs.LineFaults.{no_last, long_front}
 use Rattle.fy_audit.proofs.reader.first_entry.Goals as goal

@@ -1,4 +1,4 @@
-use Rattle.std.proofs.Common.{◌≡◌, ◌<◌, ◌∷◌, ◌++◌, length, [], take, get_or, refl, sym, ◌∙◌, ap, subst, rules}
+use Rattle.std.proofs.Common.{◌≡◌, ◌<◌, ◌∷◌, ◌++◌, length, [], take, get_or, sym, ◌∙◌, ap, subst, rules}
 use Rattle.std.specs.Prelude.{List, Option, is_some, IfSome}
 use Rattle.fy_replay.specs.Check.{IsFirstBad}
 use Rattle.fy_replay.proofs.Nexts.{place_is}

@@ -1,10 +1,12 @@
-use Rattle.std.proofs.Common.{Err, ◌∙◌, ap, subst}
+use Rattle.std.proofs.Common.{◌≡◌, Err, ◌∙◌, ap, subst}
+use Rattle.std.specs.Prelude.{IfSome}
 use Rattle.std.proofs.lemmas.Result.{err_from_is_err_and}
-use Rattle.fy_audit.specs.Script.{ScriptAnswers}
-use Rattle.fy_streams.specs.Stops.{script_stop}
-use Rattle.fy_streams.specs.declared.stop.Stop.TheVariants.{Read}
-use Rattle.fy_streams.proofs.Loading.{same_stop, unread_within}
-use Rattle.fy_run.proofs.Loading.{script_told, script_own, script_unfull, script_unread, script_unwritten, unread_told, unread_own, unread_no_other}
+use Rattle.fy_audit.specs.Script.{ScriptAnswers, ScriptOf}
+use Rattle.fy_streams.specs.Stops.{script_stop, IsRunStop}
+use Rattle.fy_streams.specs.declared.stop.Stop.TheVariants.{JournalFull, Read, Write}
+use Rattle.fy_streams.proofs.Loading.{of_unread, same_stop, unread_within}
+use Rattle.fy_run.proofs.Loading.{script_told, script_own, script_unfull, script_unread, script_unwritten}
+use Rattle.fy_run.specs.RunTexts.{IfScriptFault}
 use Rattle.fy_run.proofs.run.load_script.Goals as goal
 
 pub returns-in_err-read_script-clause-refused : goal.returns-in_err-read_script-clause-refused
@@ -38,18 +40,25 @@ returns-in_err-read_script-clause-read_fault g c is =
 
 pub returns-in_err-bytes-clause-refused : goal.returns-in_err-bytes-clause-refused
 returns-in_err-bytes-clause-refused g c =
+    let known = g.R.Read.remaining c.args.reader.now in
     let p = err_from_is_err_and c.from_residual.result c.from_residual.ensures.1 in
-    rw (p.1, p.2) (unread_told c.in_err-bytes.ensures.err)
+    rw (p.1, p.2)
+    (of_unread (λ s. IfScriptFault s (λ f. IfSome known (λ bytes. ScriptOf bytes (Err f))))
+    (λ more. more) tt tt c.in_err-bytes.ensures.err)
 
 pub returns-in_err-bytes-clause-no_other : goal.returns-in_err-bytes-clause-no_other
 returns-in_err-bytes-clause-no_other g c =
     let p = err_from_is_err_and c.from_residual.result c.from_residual.ensures.1 in
-    rw (p.1, p.2) (unread_no_other c.in_err-bytes.ensures.err)
+    rw (p.1, p.2)
+    (of_unread (λ s. (s ≡ JournalFull → ⊥) × (s ≡ Write → ⊥))
+    (λ more. (λ full. let bad : ⊥ = cc in bad, λ write. let bad : ⊥ = cc in bad))
+    (λ full. let bad : ⊥ = cc in bad, λ write. let bad : ⊥ = cc in bad)
+    (λ full. let bad : ⊥ = cc in bad, λ write. let bad : ⊥ = cc in bad) c.in_err-bytes.ensures.err)
 
 pub returns-in_err-bytes-clause-own : goal.returns-in_err-bytes-clause-own
 returns-in_err-bytes-clause-own g c =
     let p = err_from_is_err_and c.from_residual.result c.from_residual.ensures.1 in
-    rw (p.1, p.2) (unread_own c.in_err-bytes.ensures.err)
+    rw (p.1, p.2) (of_unread IsRunStop (λ more. tt) tt tt c.in_err-bytes.ensures.err)
 
 pub returns-in_err-bytes-clause-read_fault : goal.returns-in_err-bytes-clause-read_fault
 returns-in_err-bytes-clause-read_fault g c is =

@@ -1,9 +1,10 @@
 use Rattle.std.proofs.Common.{Ok, Err, ◌∙◌, ap, subst}
+use Rattle.std.specs.Prelude.{IfSome}
 use Rattle.std.proofs.lemmas.Result.{err_from_is_err_and}
 use Rattle.fy_config.specs.Config.{ConfigOf, UnlessOom}
-use Rattle.fy_streams.specs.Stops.{config_stop}
+use Rattle.fy_streams.specs.Stops.{config_stop, IfConfigFault, IsConfigStop}
 use Rattle.fy_streams.specs.declared.stop.Stop.TheVariants.{Read}
-use Rattle.fy_streams.proofs.Loading.{if_known, fault_told, fault_own, fault_unread, same_stop, unread_told, unread_own, unread_within}
+use Rattle.fy_streams.proofs.Loading.{if_known, fault_told, fault_own, fault_unread, same_stop, of_unread, unread_within}
 use Rattle.fy_streams.proofs.load.load_config.Goals as goal
 
 pub returns-clause-loaded : goal.returns-clause-loaded
@@ -38,13 +39,16 @@ returns-in_err-read_config-clause-read_fault g c is =
 
 pub returns-in_err-bytes-clause-refused : goal.returns-in_err-bytes-clause-refused
 returns-in_err-bytes-clause-refused g c =
+    let known = g.R.Read.remaining c.args.reader.now in
     let p = err_from_is_err_and c.from_residual.result c.from_residual.ensures.1 in
-    rw (p.1, p.2) (unread_told c.in_err-bytes.ensures.err)
+    rw (p.1, p.2)
+    (of_unread (λ s. IfConfigFault s (λ f. IfSome known (λ bytes. ConfigOf bytes (Err f))))
+    (λ more. more) tt tt c.in_err-bytes.ensures.err)
 
 pub returns-in_err-bytes-clause-no_other : goal.returns-in_err-bytes-clause-no_other
 returns-in_err-bytes-clause-no_other g c =
     let p = err_from_is_err_and c.from_residual.result c.from_residual.ensures.1 in
-    rw (p.1, p.2) (unread_own c.in_err-bytes.ensures.err)
+    rw (p.1, p.2) (of_unread IsConfigStop (λ more. tt) tt tt c.in_err-bytes.ensures.err)
 
 pub returns-in_err-bytes-clause-read_fault : goal.returns-in_err-bytes-clause-read_fault
 returns-in_err-bytes-clause-read_fault g c is =

@@ -1,4 +1,3 @@
-use Rattle.fy_tolerance.specs.Taken.{HasSkipped, HasTaken}
 use Rattle.fy_tolerance.proofs.Values.{contains-members, contains-others}
 use Rattle.fy_tolerance.proofs.key_values.take_value.Goals as goal
 

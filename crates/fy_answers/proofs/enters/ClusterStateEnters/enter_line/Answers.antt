@@ -1,5 +1,4 @@
-use Rattle.std.proofs.Common.{◌<◌, ap, length, subst, sym, vec_capacity}
-use Rattle.std.specs.Prelude.{Err}
+use Rattle.std.proofs.Common.{◌<◌, length, refl, subst, sym, vec_capacity}
 use Rattle.std.proofs.lemmas.Result.{err_from_is_err_and, IfErr-weaker}
 use Rattle.fy_acts.specs.declared.entry.Entry.{Entry}
 use Rattle.fy_audit.specs.AuditText.{entry_line}
@@ -12,8 +11,7 @@ returns-in_err-entry-clause-err c =
     let p = err_from_is_err_and c.from_residual.result c.from_residual.ensures.1 in
     rw (p.1, p.2)
     (no_entry c.args.self.now c.enter.new.self c.args.by c.args.act (vec_capacity c.args.text.now)
-    c.in_err-entry.field-0.0 (λ full. c.in_err-entry.ensures.full.1 (ap Err full))
-    c.in_err-entry.ensures.err)
+    c.in_err-entry.field-0.0 _ refl c.in_err-entry.ensures.full c.in_err-entry.ensures.err)
 
 pub returns-clause-err : goal.returns-clause-err
 returns-clause-err c =
