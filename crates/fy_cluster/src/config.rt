@@ -7,8 +7,8 @@ use crate::Role;
 use fy_decide::first_unmet;
 use fy_grants::{Grant, MOST_GRANTS};
 use fy_kinds::KindSet;
-use fy_locality::{Map, ProcId};
-use fy_policy::{MOST_POLICIES, Policy, try_copy_all};
+use fy_locality::{Map, ProcId, try_copy_each};
+use fy_policy::{MOST_POLICIES, Policy};
 use std::alloc::{AllocError, Global};
 use std::marker::Model;
 
@@ -181,7 +181,7 @@ impl Config {
     {
         Ok(Config {
             map: self.map.try_copy(alloc)?,
-            policies: try_copy_all(alloc, &self.policies)?,
+            policies: try_copy_each(alloc, &self.policies)?,
             roles: Vec::from_slice(alloc, &self.roles)?,
             grants: Vec::from_slice(alloc, &self.grants)?,
             protections: Vec::from_slice(alloc, &self.protections)?,

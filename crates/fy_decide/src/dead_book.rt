@@ -15,8 +15,8 @@ use crate::tallies::{
 };
 use crate::targets::Targets;
 use fy_kinds::{Kind, Target};
-use fy_locality::{Key, Map, Name, ProcId, ProcSet};
-use fy_policy::{Policy, Tally, laws, satisfied, try_copy_all};
+use fy_locality::{Key, Map, Name, ProcId, ProcSet, try_copy_each};
+use fy_policy::{Policy, Tally, laws, satisfied};
 use std::alloc::{AllocError, AllocFailed, Global};
 use std::marker::Model;
 use std::sync::Arc;
@@ -169,7 +169,7 @@ impl DeadBook {
         let map = Arc::new(alloc, map.try_copy(alloc)?)?;
         let destroyed_tallies = tallies_of(alloc, &map, policies, &ProcSet::empty())?;
         let left_tallies = tallies_of(alloc, &map, policies, &left)?;
-        let policies = try_copy_all(alloc, policies)?;
+        let policies = try_copy_each(alloc, policies)?;
         Ok(DeadBook {
             map,
             policies,
@@ -194,7 +194,7 @@ impl DeadBook {
         let left_tallies = copied_tallies(alloc, &map, &self.left_tallies)?;
         Ok(DeadBook {
             map,
-            policies: try_copy_all(alloc, &self.policies)?,
+            policies: try_copy_each(alloc, &self.policies)?,
             destroyed: self.destroyed,
             left: self.left,
             destroyed_tallies,

@@ -1,4 +1,5 @@
 pub mod Behind
 mod Going
+mod Guarding
 mod CutLemmas
 mod Whole

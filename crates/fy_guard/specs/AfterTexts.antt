@@ -15,7 +15,7 @@ use Rattle.fy_cluster.specs.Versions.{LegalUnder}
 use Rattle.fy_streams.specs.declared.stop.Stop.{Stop}
 use Rattle.fy_streams.specs.declared.stop.Stop.TheVariants.{Audit as audit_stopped}
 use Rattle.fy_acts.specs.declared.version.Version.TheVariants.{First, Second}
-use Rattle.fy_run.specs.GuardTexts.{Answered, AnsweredFrom}
+use Rattle.fy_guard.specs.GuardTexts.{Answered, AnsweredFrom}
 use Rattle.fy_run.specs.RunTexts.{asked}
 use Rattle.fy_spelling.specs.declared.command.Command.{Command}
 

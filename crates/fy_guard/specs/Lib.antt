@@ -1,2 +1,3 @@
 pub mod AfterTexts
 pub mod Cuts
+pub mod GuardTexts

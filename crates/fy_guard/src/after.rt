@@ -7,14 +7,14 @@ ghost use Rattle.fy_audit.specs.declared.audit.TheConstants.{MOST_AUDIT_BYTES};
 ghost use Rattle.fy_check.specs.CheckTexts.{HasVerdict};
 ghost use Rattle.fy_streams.specs.Stops.{IfAuditFault, IsCheckStop, IsRunStop};
 ghost use Rattle.fy_guard.specs.AfterTexts.{GoesOn, NoJournalOf};
-ghost use Rattle.fy_run.specs.GuardTexts.{AllAnswered, AnsweredBefore, AnsweredBeforeCut, AnsweredFrom, AnsweredInTurn, AppendsAtLeast, FirstAnswered, ReadNothing, room_in};
+ghost use Rattle.fy_guard.specs.GuardTexts.{AllAnswered, AnsweredBefore, AnsweredBeforeCut, AnsweredFrom, AnsweredInTurn, AppendsAtLeast, FirstAnswered, ReadNothing, room_in};
 ghost use Rattle.fy_run.specs.RunTexts.{IfRunRefusal};
 
 use crate::going_on::cluster_after;
+use crate::guard::answer_lines;
 use fy_audit::MOST_AUDIT_BYTES;
 use fy_check::{replay_audit, write_finding};
 use fy_cluster::Config;
-use fy_run::answer_lines;
 use fy_streams::Stop;
 use std::alloc::Global;
 use std::io::{BufRead, Read, Write};

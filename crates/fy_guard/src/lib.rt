@@ -1,10 +1,13 @@
-//! The engine of `guard --after`: a guard that goes on where an audit ends.
+//! The engine of `guard`: a line of a script in, and its entry out before the next, from the start or
+//! where an audit ends.
 #![tactic(auto)]
 
 mod after;
 mod cut;
 mod going_on;
+mod guard;
 pub mod laws;
 
 pub use after::run_guard_after;
 pub use cut::{Cut, cut_line, write_whole};
+pub use guard::run_guard;

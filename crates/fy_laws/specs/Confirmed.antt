@@ -7,7 +7,7 @@ use Rattle.fy_audit.specs.declared.audit.TheConstants.{MOST_AUDIT_BYTES}
 use Rattle.fy_cluster.specs.Setup.{Setup}
 use Rattle.fy_config.specs.Config.{ConfigOf}
 use Rattle.fy_run.specs.RunTexts.{Runs}
-use Rattle.fy_run.specs.GuardTexts.{Answered}
+use Rattle.fy_guard.specs.GuardTexts.{Answered}
 use Rattle.fy_check.specs.CheckTexts.{Finds, legal_line}
 
 -- a text is no longer than an audit may be, and none of its lines is longer than a line may be

@@ -1,10 +1,10 @@
 //! Copies of policies, in memory of their own.
 ghost use Rattle.std.specs.Prelude.{◌≡◌, IfOk};
 ghost use Rattle.fy_policy.specs.Shape.{tree_of};
-ghost use Rattle.fy_policy.specs.Tree.{IsPolicy};
 
 use crate::Policy;
 use crate::shape::Shape;
+use fy_locality::TryCopy;
 use std::alloc::{AllocError, Global};
 
 /// An equal shape, in memory of its own.
@@ -32,32 +32,9 @@ fn copied(alloc: Global, shape: &Shape) -> Result<Shape, AllocError>
     }
 }
 
-impl Policy {
-    /// An equal policy.
-    ///
-    /// # Errors
-    ///
-    /// An allocation failed.
-    pub fn try_copy(&self, alloc: Global) -> Result<Policy, AllocError>
-        ensures equal { IfOk result (λ copy. copy ≡ self.now) }
-        ensures limits { IsPolicy self.now }
-    {
+impl TryCopy for Policy {
+    fn try_copy(&self, alloc: Global) -> Result<Policy, AllocError> {
         let shape = copied(alloc, self.shape())?;
         Ok(Policy::from_shape(shape))
     }
-}
-
-/// A copy of policies, in memory of its own.
-///
-/// # Errors
-///
-/// An allocation failed.
-pub fn try_copy_all(alloc: Global, policies: &[Policy]) -> Result<Vec<Policy>, AllocError>
-    ensures { IfOk result (λ copies. copies.items ≡ policies.now) }
-{
-    let mut copies = Vec::new(alloc);
-    for policy in policies {
-        copies.push(policy.try_copy(alloc)?)?;
-    }
-    Ok(copies)
 }

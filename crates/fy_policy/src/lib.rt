@@ -16,7 +16,6 @@ mod tally;
 mod text;
 pub mod text_laws;
 
-pub use copied::try_copy_all;
 pub use fault::PolicyFault;
 pub use limits::{
     LEAST_COUNT, MOST_COUNT, MOST_DEPTH, MOST_NODES, MOST_POLICIES, MOST_READ_BYTES,

@@ -11,7 +11,7 @@ use crate::node::{
     Node, copied_node, is_satisfied_at, satisfied_after_one_toggle, satisfied_after_toggle, toggle,
     zeros,
 };
-use fy_locality::{Map, ProcId, ProcSet};
+use fy_locality::{Map, ProcId, ProcSet, TryCopy};
 use std::alloc::{AllocError, Global};
 use std::marker::Model;
 use std::sync::Arc;

@@ -14,7 +14,18 @@ use Rattle.fy_streams.specs.Stops.{entering_stop}
 use Rattle.fy_streams.specs.Outputs.{FlushesFront, IsOutputStop}
 use Rattle.fy_run.specs.RunTexts.{asked, made_by, lines_of_entries}
 use Rattle.fy_run.proofs.Acting.{one_longer}
-use Rattle.fy_run.proofs.Guarding.{short_behind}
+
+-- a piece that isn't out whole stands behind what is out
+pub short_behind : (first second third : Option (List ℕ)) (done piece : List ℕ) →
+    Appends first second done → AppendsProperPrefix second third piece →
+    AppendsProperPrefix first third (done ++ piece)
+short_behind first second third done piece written (front, rest, is, grown, some) = (
+  done ++ front,
+  rest,
+  ap (λ l. done ++ l) is ∙ sym (append_assoc done front rest),
+  Appends-trans first second third done front written grown,
+  some,
+)
 
 -- the lines that commands come to
 abbrev pub lines_of : Execution → List Command → List ℕ

@@ -1,4 +1,3 @@
 pub mod Acting
 pub mod Gathering
-pub mod Guarding
 pub mod Loading

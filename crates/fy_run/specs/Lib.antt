@@ -1,2 +1,1 @@
-pub mod GuardTexts
 pub mod RunTexts

@@ -1,9 +1,6 @@
-//! The engines of `run` and `guard`: a script in, the audit of its acts out, at its end or line by
-//! line.
+//! The engine of `run`: a script in, the audit of its acts out.
 #![tactic(auto)]
 
-mod guard;
 mod run;
 
-pub use guard::{answer_lines, run_guard};
 pub use run::run_script;

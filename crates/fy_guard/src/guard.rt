@@ -7,7 +7,7 @@ ghost use Rattle.fy_lines.specs.Readings.{ReadsLine, ReadsWithinLine, ReadsInsid
 ghost use Rattle.fy_spelling.specs.declared.command.TheConstants.{MOST_LINE_BYTES};
 ghost use Rattle.fy_audit.specs.declared.script.ScriptFault.TheVariants.{Line};
 ghost use Rattle.fy_answers.specs.Answers.{IsAnswered};
-ghost use Rattle.fy_run.specs.GuardTexts.{AllAnswered, AnsweredBefore, FirstAnswered, AnsweredInTurn, AnsweredBeforeCut, AnsweredFrom, room_in, AnswersAll, AnswersBefore, AnswersSome, AnswersInTurn, AnswersBeforeCut, ReadNothing, AppendsAtLeast, NoLine, NoAnswer, answer_stop};
+ghost use Rattle.fy_guard.specs.GuardTexts.{AllAnswered, AnsweredBefore, FirstAnswered, AnsweredInTurn, AnsweredBeforeCut, AnsweredFrom, room_in, AnswersAll, AnswersBefore, AnswersSome, AnswersInTurn, AnswersBeforeCut, ReadNothing, AppendsAtLeast, NoLine, NoAnswer, answer_stop};
 ghost use Rattle.fy_run.specs.RunTexts.{IfRunRefusal};
 ghost use Rattle.fy_streams.specs.Stops.{IsRunStop};
 
@@ -98,7 +98,7 @@ fn answer_line<W: Write>(
 /// reader fails: they are then those of the lines before the one that was being read. `NoMemory`
 /// where an allocation fails: so are they then. `Write` where the writer fails or takes no byte: a
 /// front of such entries is out, and never all of them.
-pub fn answer_lines<R: BufRead, W: Write>(
+pub(crate) fn answer_lines<R: BufRead, W: Write>(
     alloc: Global,
     mut cluster: ClusterState,
     reader: &mut R,

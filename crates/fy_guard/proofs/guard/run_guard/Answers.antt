@@ -8,9 +8,9 @@ use Rattle.fy_spelling.specs.declared.command.TheConstants.{MOST_LINE_BYTES}
 use Rattle.fy_audit.specs.AuditText.{header}
 use Rattle.fy_acts.specs.declared.version.Version.TheVariants.{Second}
 use Rattle.fy_run.specs.RunTexts.{IfRunRefusal}
-use Rattle.fy_run.specs.GuardTexts.{AllAnswered, AnsweredBefore, AnsweredBeforeCut, AnsweredFrom, AnsweredInTurn, AppendsAtLeast, FirstAnswered, room_in}
-use Rattle.fy_run.proofs.Guarding.{all_headed, appends_headed, at_least_headed, before_headed, header_short, short_headed, some_headed, turn_headed}
-use Rattle.fy_run.proofs.guard.run_guard.Goals as goal
+use Rattle.fy_guard.specs.GuardTexts.{AllAnswered, AnsweredBefore, AnsweredBeforeCut, AnsweredFrom, AnsweredInTurn, AppendsAtLeast, FirstAnswered, room_in}
+use Rattle.fy_guard.proofs.Guarding.{all_headed, appends_headed, at_least_headed, before_headed, header_short, short_headed, some_headed, turn_headed}
+use Rattle.fy_guard.proofs.guard.run_guard.Goals as goal
 
 pub returns-in_err-write_bytes-clause-front_out :
     goal.returns-in_err-write_bytes-clause-front_out

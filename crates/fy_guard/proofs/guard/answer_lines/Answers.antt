@@ -7,8 +7,8 @@ use Rattle.fy_cluster.specs.Setup.{Setup}
 use Rattle.fy_cluster.specs.Execution.{Execution}
 use Rattle.fy_streams.specs.declared.stop.Stop.TheVariants.{Read, Write, NoMemory}
 use Rattle.fy_run.proofs.Acting.{one_longer}
-use Rattle.fy_run.proofs.Guarding.{opens, goes_on, limit_is_small, answers_all, in_turn, made_so_far, refused_line, refused_answer, at_least, still_out, none_out, answer_short, no_line_write, no_line_own, no_answer_read, no_answer_own, same_stop}
-use Rattle.fy_run.proofs.guard.answer_lines.Goals as goal
+use Rattle.fy_guard.proofs.Guarding.{opens, goes_on, limit_is_small, answers_all, in_turn, made_so_far, refused_line, refused_answer, at_least, still_out, none_out, answer_short, no_line_write, no_line_own, no_answer_read, no_answer_own, same_stop}
+use Rattle.fy_guard.proofs.guard.answer_lines.Goals as goal
 
 pub lines-init : goal.lines-init
 lines-init g c = (

@@ -1,8 +1,8 @@
 use Rattle.std.proofs.Common.{◌∙◌, ap, sym}
 use Rattle.std.specs.Prelude.{Err}
 use Rattle.fy_streams.specs.Stops.{input_stop}
-use Rattle.fy_run.proofs.Guarding.{no_line, not_long}
-use Rattle.fy_run.proofs.guard.read_line.Goals as goal
+use Rattle.fy_guard.proofs.Guarding.{no_line, not_long}
+use Rattle.fy_guard.proofs.guard.read_line.Goals as goal
 
 pub returns-in-Err-clause-err : goal.returns-in-Err-clause-err
 returns-in-Err-clause-err g c =

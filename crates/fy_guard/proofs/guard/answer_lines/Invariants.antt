@@ -1,6 +1,6 @@
 use Rattle.std.proofs.Common.{◌≡◌, ◌+◌, ◌-◌, length}
-use Rattle.fy_run.proofs.Guarding.{HasAnswered}
-use Rattle.fy_run.proofs.guard.answer_lines.Given as goal
+use Rattle.fy_guard.proofs.Guarding.{HasAnswered}
+use Rattle.fy_guard.proofs.guard.answer_lines.Given as goal
 
 abbrev pub invariant-lines : goal.invariant-lines
 invariant-lines g l =

@@ -27,7 +27,8 @@ use Rattle.fy_cluster.specs.Replies.{Legal}
 use Rattle.fy_cluster.specs.Survival.{by_and_act}
 use Rattle.fy_cluster.specs.Execution.{Execution, opened, next_entry, entered}
 use Rattle.fy_run.specs.RunTexts.{asked, lines_of_entries, IfRunRefusal}
-use Rattle.fy_run.specs.GuardTexts.{Answered, AnsweredFrom, room_in, StopsAtLine, AllAnswered, AreBefore, AnsweredBefore, FirstAnswered, AreInTurn, AnswersAll, AnswersBefore, AnswersSome, AppendsAtLeast, NoLine, NoAnswer, answer_stop}
+use Rattle.fy_run.proofs.Gathering.{short_behind}
+use Rattle.fy_guard.specs.GuardTexts.{Answered, AnsweredFrom, room_in, StopsAtLine, AllAnswered, AreBefore, AnsweredBefore, FirstAnswered, AreInTurn, AnswersAll, AnswersBefore, AnswersSome, AppendsAtLeast, NoLine, NoAnswer, answer_stop}
 use Rattle.fy_answers.specs.Answers.{HasNoEntry, HasNoAnswer, IsAnswered}
 use Rattle.fy_answers.specs.declared.fault.AnswerFault.{AnswerFault}
 use Rattle.fy_answers.specs.declared.fault.AnswerFault.TheVariants as answer
@@ -427,17 +428,6 @@ none_out {from} {old} {left} {before} {out} {short} {execution} {now} {line} {nu
     Appends-kept before out short (lines_of_entries has.made) has.written keeps
 none_out {from} {old} {left} {before} {out} {short} {execution} {now} {line} {number} {stop} has (NoAnswer.short text answered told stops) is =
     let bad : ⊥ = cc in absurd bad
-
-pub short_behind : (first second third : Option (List ℕ)) (done piece : List ℕ) →
-    Appends first second done → AppendsProperPrefix second third piece →
-    AppendsProperPrefix first third (done ++ piece)
-short_behind first second third done piece written (front, rest, is, grown, some) = (
-  done ++ front,
-  rest,
-  ap (λ l. done ++ l) is ∙ sym (append_assoc done front rest),
-  Appends-trans first second third done front written grown,
-  some,
-)
 
 first_answered : (from : Execution) (old left : Option (List ℕ)) (made : List Entry)
     (P : List ℕ → Type 0) → HasRead old left made → Legal from.setup (from.journal ++ made) →
