@@ -275,6 +275,8 @@ impl Map {
         }
     }
 
+    /// Why a process with this name is not taken, if it isn't: the first reason in the order of
+    /// `push`.
     fn refusal(&self, id: &Name) -> Option<MapFault>
         ensures { result ≡ id_refusal self.now id.now }
     {

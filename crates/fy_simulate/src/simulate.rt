@@ -137,6 +137,7 @@ impl Simulation {
         take_turn(self.players.as_mut_slice(), actor, &mut self.cluster)
     }
 
+    /// The cluster, as the turns so far left it.
     fn into_cluster(self) -> Cluster
         ensures { result ≡ self.cluster }
     {
