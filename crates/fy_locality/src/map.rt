@@ -348,6 +348,7 @@ pub enum MapFault {
     Twice,
     /// 1024 processes are there already.
     TooMany,
+    /// An allocation for the process failed.
     NoMemory,
 }
 
