@@ -35,6 +35,7 @@ impl Team {
         }
     }
 
+    /// Whether the team was refused.
     fn is_refused(self) -> bool
         ensures { result ≡ is_refused self }
     {

@@ -1,5 +1,5 @@
-//! Fault actors: what they plan, the desk (the cluster, held by one actor at a time), and the actors
-//! themselves.
+//! Fault actors: what they plan, the desk (the cluster, held by one actor at a time), and the
+//! actors themselves.
 #![tactic(auto)]
 
 mod attrition;

@@ -54,14 +54,15 @@ pub data HasNoEntry (old new : Execution) (by : ℕ) (act : Act) (room : ℕ) : 
     unwritten : IsMade old new by act → room < length (made_line old by act) →
         HasNoEntry old new by act room Unwritten
 
--- a line is answered by a text: it is a command, whose act is made, and the text is its entry's line
+-- a line is answered by a text: it is a command, whose act is made, and the text is its entry's
+-- line
 pub record IsAnswered (old new : Execution) (line text : List ℕ) : Type 0 where
   pub command : Command
   pub asked : LineOf line (Ok command)
   pub entered : HasEntered old new command.by command.act text
 
--- a line has no answer: it is no command, an allocation failed as it was read, which isn't too long,
--- or its command has no entry or no line for that
+-- a line has no answer: it is no command, an allocation failed as it was read, which isn't too
+-- long, or its command has no entry or no line for that
 pub data HasNoAnswer (old new : Execution) (line : List ℕ) (room : ℕ) : AnswerFault → Type 0 where
   faulty : (fault : LineFault) → LineOf line (Err fault) → new ≡ old →
       HasNoAnswer old new line room (Line fault)

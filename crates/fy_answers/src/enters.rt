@@ -34,6 +34,11 @@ pub trait Enters {
 }
 
 /// Puts an entry's line into a text, in place of what it has.
+///
+/// # Errors
+///
+/// `Unwritten` where an allocation for the line failed, which has more bytes than the text has room
+/// for.
 fn put_line(text: &mut Vec<u8>, entry: &Entry) -> Result<(), AnswerFault>
     ensures line { OnOk result (text.new.items ≡ entry_line entry.now) }
     ensures err { IfErr result (λ fault. (fault ≡ Unwritten)

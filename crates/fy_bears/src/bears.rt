@@ -43,7 +43,8 @@ fn write_told<S: Spelling, W: Write>(
     Ok(())
 }
 
-/// Writes what a cluster bears from its start on, when nothing is lost yet.
+/// Writes what a cluster bears from its start on, when nothing is lost yet. An `Ok` is always
+/// `true`: `run_bears_after` says `false` of an audit that isn't legal.
 ///
 /// # Errors
 ///

@@ -52,6 +52,7 @@ impl FyCheck {
     }
 }
 
+/// The handle of a check that is taken out of its box.
 fn to_handle(loose: Loose<Check, Global>) -> FyCheck
     ensures { (result.value ≡ loose.value) × (result.at ≢ null_ptr) }
 {
@@ -59,6 +60,7 @@ fn to_handle(loose: Loose<Check, Global>) -> FyCheck
     FyCheck { at: at as *mut u8 }
 }
 
+/// What a handle points to, with the allocator of its box.
 fn from_handle(alloc: Global, handle: FyCheck) -> Loose<Check, Global>
     requires { handle.at ≢ null_ptr }
     ensures { result.value ≡ handle.value }

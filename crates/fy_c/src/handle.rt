@@ -50,6 +50,7 @@ impl FyGuard {
     }
 }
 
+/// The handle of a cluster that is taken out of its box.
 fn to_handle(loose: Loose<Cluster, Global>) -> FyGuard
     ensures { (result.value ≡ loose.value) × (result.at ≢ null_ptr) }
 {
@@ -57,6 +58,7 @@ fn to_handle(loose: Loose<Cluster, Global>) -> FyGuard
     FyGuard { at: at as *mut u8 }
 }
 
+/// What a handle points to, with the allocator of its box.
 fn from_handle(alloc: Global, handle: FyGuard) -> Loose<Cluster, Global>
     requires { handle.at ≢ null_ptr }
     ensures { result.value ≡ handle.value }

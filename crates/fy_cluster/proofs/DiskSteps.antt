@@ -1,4 +1,5 @@
--- A disk's lists after one entry more, as the code keeps them: the bridge from writes with their fates to running lists.
+-- A disk's lists after one entry more, as the code keeps them: the bridge from writes with their
+-- fates to running lists.
 use Rattle.std.proofs.Common.{◌≡◌, ℕ, ◌+◌, Bool, true, false, cond, ◌&&◌, ◌||◌, not, List, [], ◌∷◌, ◌++◌, length, map, filter, Contains, Option, Some, None, is_some, refl, sym, ◌∙◌, ap, ap₂, subst, arith, option_to_list, option_map, if◌then◌else◌, append-nil, append_assoc, ◌==◌}
 use Rattle.std.proofs.lemmas.Bool.{false≢true, true≢false, false_from_ne_true, or_left, or_right}
 use Rattle.std.proofs.lemmas.List.{map-append}
@@ -244,7 +245,8 @@ in_order (m ∷ h) p = at (closes p m) refl (in_order h p)
 
 -- ---- the lists that a disk keeps
 
--- Where the entry closes and doesn't destroy, some of the unsynced writes go behind the synced ones, and none are left.
+-- Where the entry closes and doesn't destroy, some of the unsynced writes go behind the synced
+-- ones, and none are left.
 pub synced_at_close : (m : Step) (h : History) (p : ℕ) → closes p m ≡ true → destroys m p ≡ false → synced (m ∷ h) p ≡ synced h p ++ filter_by_place (λ i. close_keeps p i m) 0 (unsynced h p)
 synced_at_close m h p c d =
     let ws = writes_to h p in

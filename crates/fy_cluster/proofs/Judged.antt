@@ -70,7 +70,8 @@ named_within (x ∷ xs) (suc p) name e = let l = named_within xs p name e in ome
 
 -- ---- clogs
 
--- an act on a target's clogs: a rule bars it, or it changes, by the time, until when the target's processes are clogged
+-- an act on a target's clogs: a rule bars it, or it changes, by the time, until when the target's
+-- processes are clogged
 pub record ActsOnClogs (point : Point) (act : Act) (target : Target) (change : ℕ → ℕ → ℕ) : Type 0 where
   pub ruled : Ruled (bar (situation point.setup point.before point.by) Clogging (targets point.setup.processes (left point.setup point.before) target)) ≡ first_refusal_or (refusals point.setup point.before act) (answer point.setup point.before point.by act)
   pub idle : (rule : Rule) → doings act (Ruled (Some rule)) ≡ nothing

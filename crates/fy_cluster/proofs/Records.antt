@@ -102,9 +102,9 @@ Held h r p = (b : BegunRecord) × (slice_get (records h) r ≡ Some b) × Contai
 abbrev pub HasCopy : History → ℕ → ℕ → Type 0
 HasCopy h r p = (destroyed h p ≡ true) ⊎ Held h r p
 
--- What every legal journal keeps. A heal takes words out of flight and marks away, so nothing is said of words that
--- were sent before, and of marks only while their record isn't acknowledged; of an acknowledged record each member of
--- the team has its copy, or is destroyed.
+-- What every legal journal keeps. A heal takes words out of flight and marks away, so nothing is
+-- said of words that were sent before, and of marks only while their record isn't acknowledged; of
+-- an acknowledged record each member of the team has its copy, or is destroyed.
 pub record Sound (c : Setup) (h : History) : Type 0 where
   pub sent_known : AllByRecursion (λ b. Known h (record_of b)) (sent h)
   pub known : WritesKnown h

@@ -14,7 +14,8 @@ some_not_none x e = cc
 pub some_is_same : {T : Type 0} (x y : T) → Some x ≡ Some y → x ≡ y
 some_is_same x y e = cc
 
--- of a call with a reason against it, which else fails by an allocation alone: an Ok had none, an Err the reason or that failure
+-- of a call with a reason against it, which else fails by an allocation alone: an Ok had none, an
+-- Err the reason or that failure
 pub told : {T F : Type 0} (o : Option F) (memory : F) (result : Result T F) → ((f : F) → o ≡ Some f → result ≡ Err f) → (o ≡ None → IfErr result (λ f. f ≡ memory))
     → MatchResult result (λ u. o ≡ None) (λ f. (o ≡ Some f) ⊎ ((o ≡ None) × (f ≡ memory)))
 told None memory (Ok u) past wants = refl

@@ -73,7 +73,8 @@ ends_still m h p no_clog no_end =
     same true = refl
     same false = refl
 
--- an entry that neither sends nor takes out, clogs or unclogs leaves the messages; some ticks may have passed
+-- an entry that neither sends nor takes out, clogs or unclogs leaves the messages; some ticks may
+-- have passed
 pub net_ticked : (c : Setup) (m : Step) (h : History) (net : NetState) → m.sends ≡ [] → ((n : ℕ) → m.removes n ≡ false) → clogs m.entry.act m.entry.reply ≡ None → unclogs m.entry.act m.entry.reply ≡ None
     → RefinesNet c h net → RefinesNet c (m ∷ h) (record net { clock = now (m ∷ h) })
 net_ticked c m h net none keeps no_clog no_end k = record {

@@ -1,4 +1,5 @@
--- holders of a guarded store's records: what covers a record goes on covering it, and the destroyed never do
+-- holders of a guarded store's records: what covers a record goes on covering it, and the destroyed
+-- never do
 use Rattle.std.proofs.Common.{◌≡◌, ℕ, zero, suc, ◌+◌, ◌<◌, Bool, true, false, ◌&&◌, ◌||◌, not, length, Contains, refl, ◌∙◌, subst, arith, inl, inr, zero-add}
 use Rattle.std.proofs.lemmas.Bool.{false≢true, not-false, both_ways, false_from_ne_true}
 use Rattle.std.proofs.lemmas.List.Elements.{All-contains, All-from_recursion}

@@ -142,7 +142,8 @@ acked_then c h e sound n s r before a =
         and_from _ _ (lt-ltb r _ (slice_get_within (records (step_of c h e ∷ h)) r b.0 there))
         (subst (λ ps. list_all (λ p. marked (step_of c h e ∷ h) r p.0) ps ≡ true) (sym (members_still c (step_of c h e) h sound n r b)) all)
 
--- where all members have marks, a word of the record was just delivered, or it was acknowledged before
+-- where all members have marks, a word of the record was just delivered, or it was acknowledged
+-- before
 then_acked : EmptyNone → Tested → (c : Setup) → IsMet c → (h : History) (e : Entry) → IsNext c h e → Sound c h → ((r p : ℕ) → marked h r p ≡ true → Known h r) → replaces e.act e.reply ≡ None → (r : ℕ)
     → ((nat_lt r (length (records h)) && list_all (λ p. marked h r p.0) (members_for h r)) ≡ true → acked h r ≡ true)
     → (nat_lt r (length (records (step_of c h e ∷ h))) && list_all (λ p. marked (step_of c h e ∷ h) r p.0) (members_for (step_of c h e ∷ h) r)) ≡ true → acked (step_of c h e ∷ h) r ≡ true

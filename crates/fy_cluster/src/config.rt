@@ -175,7 +175,11 @@ impl Config {
         })
     }
 
-    /// An equal configuration, or an allocation failure.
+    /// An equal configuration.
+    ///
+    /// # Errors
+    ///
+    /// `AllocError` where an allocation fails.
     pub fn try_copy(&self, alloc: Global) -> Result<Config, AllocError>
         ensures { IfOk result (λ copy. copy ≡ self.now) }
     {

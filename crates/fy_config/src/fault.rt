@@ -6,10 +6,15 @@ use thiserror::Error;
 /// A part of a cluster file, in the order in which parts are looked at.
 #[derive(Clone, Copy, PartialEq, Eq, Debug)]
 pub enum Part {
+    /// How many entries the journal may have.
     JournalLimit,
+    /// The texts of the policies.
     Policies,
+    /// The processes, each with its locality.
     Process,
+    /// The actors, each with its role and its first grants.
     Actor,
+    /// The first protections.
     Protect,
     /// A key at the top that is none of the others.
     Unknown,
@@ -50,8 +55,10 @@ impl fmt::Display for Part {
 /// answer.
 #[derive(Clone, Copy, PartialEq, Eq, Debug, Error)]
 pub enum ConfigFault {
+    /// The file has over 1,048,576 bytes.
     #[error("the file is longer than 1,048,576 bytes")]
     TooLong,
+    /// The bytes are no TOML document, or no UTF-8.
     #[error("the file is no TOML document in UTF-8")]
     Toml,
     /// A key is missing or unknown, its value is of another type, or a word is none of those that
@@ -65,10 +72,13 @@ pub enum ConfigFault {
     /// there or was named before.
     #[error("{part} {index}: a text is no name, or names what is taken or isn't there")]
     Name { part: Part, index: usize },
+    /// The text of the policy at this place is no policy.
     #[error("the text of policy {index} is no policy")]
     Policy { index: usize },
+    /// All processes together don't satisfy the policy at this place.
     #[error("policy {index} isn't satisfied by all processes")]
     PolicyUnmet { index: usize },
+    /// An allocation for the configuration failed.
     #[error("there was no memory for the file")]
     NoMemory,
 }

@@ -26,6 +26,7 @@ use std::sync::Arc;
 pub enum MakeFault {
     /// The policy at this place is the first that all processes together don't satisfy.
     Unmet { index: usize },
+    /// An allocation for the book failed.
     NoMemory,
 }
 
@@ -51,11 +52,12 @@ impl<T: Drop> From<AllocFailed<T>> for MakeFault {
     }
 }
 
-/// How processes are lost: an emptied one comes back without its data, a gone one doesn't come
-/// back.
+/// How processes are lost.
 #[derive(Clone, Copy, PartialEq, Eq, Debug)]
 pub enum Loss {
+    /// They come back without their data.
     Emptied,
+    /// They don't come back.
     Gone,
 }
 

@@ -1,5 +1,5 @@
--- sets of processes, one a record, to which a process is added or from which it is taken, item after
--- item
+-- sets of processes, one a record, to which a process is added or from which it is taken, item
+-- after item
 use Rattle.std.proofs.Common.{◌≡◌, ℕ, ◌+◌, ◌<◌, Bool, true, false, ◌&&◌, ◌||◌, not, List, [], ◌∷◌, ◌++◌, length, take, get_or, slice_set, refl, sym, ap, ◌∙◌, arith, length-set, ◌==◌, eqb-true, eq-eqb, if◌then◌else◌}
 use Rattle.std.specs.Ordering.{nat_cmp}
 use Rattle.std.specs.Cmp.{nat_cmp_total, unsigned_tied}
@@ -53,7 +53,8 @@ put_in s p q = sets.contains-insert nat_cmp_total s p q ∙ ap (λ b. b || sets.
 pub taken_out : (s : Set) (p q : ℕ) → sets.contains (sets.remove s p) q ≡ (not (q == p) && sets.contains s q)
 taken_out s p q = sets.contains-remove nat_cmp_total s p q ∙ ap (λ b. not b && sets.contains s q) (unsigned_tied q p)
 
--- whether it is of the next item's record, whether it is the process, what the set had, and what the items before have
+-- whether it is of the next item's record, whether it is the process, what the set had, and what
+-- the items before have
 one_gained : (here it had items : Bool) → (if here then (it || (had || it && items)) else (had || it && items)) ≡ (had || it && (items || (here || false)))
 one_gained true true true items = refl
 one_gained true true false true = refl

@@ -12,7 +12,8 @@ use Rattle.fy_disk.specs.Disk.{filter_by_place, outlives, survivors, crashed}
 some_item : Item
 some_item = record { rec = 0; payload = [] }
 
--- `was` is worked into `now`: what is kept so far, and then what passes of the rest, is what is wanted
+-- `was` is worked into `now`: what is kept so far, and then what passes of the rest, is what is
+-- wanted
 pub record GatheredSoFar (test : ℕ → Bool) (was now : List Item) (kept at : ℕ) : Type 0 where
   pub behind : kept ≤ at
   pub long : length now ≡ length was

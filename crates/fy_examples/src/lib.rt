@@ -9,8 +9,6 @@ mod acts;
 #[cfg(test)]
 mod audit;
 #[cfg(test)]
-mod bears;
-#[cfg(test)]
 mod by_number;
 #[cfg(test)]
 mod check;
@@ -26,6 +24,8 @@ mod decide;
 mod disk;
 #[cfg(test)]
 mod disks;
+#[cfg(test)]
+mod events;
 #[cfg(test)]
 mod grants;
 #[cfg(test)]
@@ -43,12 +43,12 @@ mod picture;
 #[cfg(test)]
 mod policy;
 #[cfg(test)]
+mod shared;
+#[cfg(test)]
 mod single;
 #[cfg(test)]
 mod spelling;
 #[cfg(test)]
 mod team;
 #[cfg(test)]
-mod times;
-#[cfg(test)]
-mod yard;
+mod tolerance;

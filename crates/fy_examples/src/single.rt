@@ -5,6 +5,7 @@ use fy_policy::read_policy;
 use std::alloc::Global;
 use std::test::Fail;
 
+/// One process, with one actor, which stores.
 pub(crate) fn config_of_one(alloc: Global) -> Result<Config, Fail> {
     config_for(alloc, &[Role::Storage])
 }

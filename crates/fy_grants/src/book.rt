@@ -269,6 +269,7 @@ pub enum BookFault {
     NoSuch,
     /// [`MOST_GRANTS`] are there already.
     Full,
+    /// An allocation failed.
     NoMemory,
 }
 

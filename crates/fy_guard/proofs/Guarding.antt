@@ -52,7 +52,8 @@ gives (Some bytes) next line command (rest, is, first) spelled = (line, rest, is
 abbrev pub entry_of : Execution → Command → Entry
 entry_of execution command = next_entry execution command.by command.act
 
--- some first lines were read and no byte behind them, and the entries that were made are of their acts
+-- some first lines were read and no byte behind them, and the entries that were made are of their
+-- acts
 abbrev pub HasRead : Option (List ℕ) → Option (List ℕ) → List Entry → Type 0
 HasRead old left made =
     IfSome old (λ bytes. (front : List (List ℕ)) × (rest : List ℕ) × (commands : List Command)

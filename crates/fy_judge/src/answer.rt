@@ -6,8 +6,8 @@ ghost use Rattle.fy_judge.specs.JudgeTexts.{answer_of, answer_line, answers_text
 ghost use Rattle.fy_judge.specs.JudgeBooks.{RecordsGranted};
 ghost use Rattle.fy_decide.specs.DeadBook.{IsFresh};
 
-use crate::input::Input as JudgeInput;
-use crate::line::Ask as JudgeAsk;
+use crate::input::Input;
+use crate::line::Ask;
 use fy_decide::DeadBook;
 use fy_locality::{MOST_PROCESSES, ProcSet};
 use std::alloc::{AllocError, Global};
@@ -34,7 +34,7 @@ impl Answer {
 }
 
 /// The answer to one ask, whose loss is recorded where the answer is yes.
-fn answer_ask(dead: &mut DeadBook, ask: JudgeAsk) -> Answer
+fn answer_ask(dead: &mut DeadBook, ask: Ask) -> Answer
     requires { ask.process.0 < MOST_PROCESSES }
     ensures { (i : Input) (granted : List Ask) → RecordsGranted i granted dead.old →
         ask.process.0 < length i.processes → (result ≡ answer_of i granted ask)
@@ -55,7 +55,7 @@ fn answer_ask(dead: &mut DeadBook, ask: JudgeAsk) -> Answer
 /// The line of each answer, in order.
 pub(crate) fn answer_asks(
     alloc: Global,
-    input: &JudgeInput,
+    input: &Input,
     dead: &mut DeadBook,
 ) -> Result<Vec<u8>, AllocError>
     requires { IsFresh input.now.processes input.now.policies dead.old }

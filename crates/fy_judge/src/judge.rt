@@ -95,7 +95,8 @@ fn answer_bytes(alloc: Global, bytes: &[u8]) -> Result<Vec<u8>, JudgeStop>
 /// Reads policies, processes and asks from the reader to its end, and writes a line for each ask.
 ///
 /// The whole input is read and judged before the first byte is written, and at most one byte past
-/// its limit is read.
+/// its limit is read. An `Ok` is always `true`: the engines that check an audit say `false` of one
+/// that isn't legal.
 ///
 /// # Errors
 ///

@@ -8,8 +8,8 @@ use Rattle.std.proofs.lemmas.Nat.{or_lt, and_le_l}
 use Rattle.std.proofs.lemmas.Bool.Decides.{nat_tests}
 use Rattle.bitflags.specs.Sets.{without, find_row, find_name}
 use Rattle.fy_kinds.specs.declared.kind.Kind.TheVariants.{RebootProcess, Reboot, RebootAndDelete, KillInstantly}
-use Rattle.fy_kinds.specs.Kinds.{Striking, Clogging, only, no_deed, in_either, in_each, in_first_alone, has_all, has_some, set_named, table, bits_of, set_of_bits}
-use Rattle.fy_kinds.specs.BitsBack.{all_below, each_below, bits_back}
+use Rattle.fy_kinds.specs.Kinds.{Striking, Clogging, only, in_either, in_each, in_first_alone, has_all, has_some, set_named, table, set_of_bits}
+use Rattle.fy_kinds.specs.BitsBack.{all_below, each_below}
 
 -- ---- one bit
 min_test : (a b : ℕ) → a < 2 → b < 2 → eqb (min a b) 1 ≡ (eqb a 1 && eqb b 1)

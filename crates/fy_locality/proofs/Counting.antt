@@ -94,8 +94,8 @@ bit_of_zero w i e = ap (λ n. eqb (bit_at n i) 1) e ∙ ap (λ n. eqb n 1) (bit_
 off : (q : ℕ) (b : Bool) → b ≡ false → (ltb q 1024 && b) ≡ false
 off q b e = grind (arith, nat_tests)
 
--- where nothing below word `first` is a member and the words from there to word n are 0, nothing below
--- word n is
+-- where nothing below word `first` is a member and the words from there to word n are 0, nothing
+-- below word n is
 pub none_below_zeros : (ws : List ℕ) (first n : ℕ) → StartsAt first (members ws) → ((k : ℕ) → first ≤ k → k < n → get_or ws k 0 ≡ 0) → StartsAt n (members ws)
 none_below_zeros ws first n starts zeros q h = elim (cases_lt q (first * 64)) [
   | inl early ↦ starts q early

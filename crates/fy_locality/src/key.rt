@@ -5,10 +5,15 @@ ghost use Rattle.fy_locality.specs.Key.{key_text, key_named};
 /// One part of a locality.
 #[derive(Clone, Copy, PartialEq, Eq, Debug)]
 pub enum Key {
+    /// The process itself, by its id.
     Process,
+    /// The machine on which it runs.
     Machine,
+    /// The zone in which it is.
     Zone,
+    /// Its data hall, where it has one.
     DataHall,
+    /// Its data centre, where it has one.
     DataCenter,
 }
 

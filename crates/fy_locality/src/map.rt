@@ -275,6 +275,8 @@ impl Map {
         }
     }
 
+    /// Why a process with this name is not taken, if it isn't: the first reason in the order of
+    /// `push`.
     fn refusal(&self, id: &Name) -> Option<MapFault>
         ensures { result ≡ id_refusal self.now id.now }
     {
@@ -346,6 +348,7 @@ pub enum MapFault {
     Twice,
     /// 1024 processes are there already.
     TooMany,
+    /// An allocation for the process failed.
     NoMemory,
 }
 

@@ -7,8 +7,8 @@ use Rattle.fy_cluster.specs.Execution.{Execution, opened}
 use Rattle.fy_replay.specs.Replayed.{HasFirstBad}
 use Rattle.fy_picture.specs.SoFar.{ColumnsSoFar, DueHaveEnded, no_columns, with_room}
 
--- the journal's version, the cluster with its good entries, its first bad entry, the columns so far,
--- and whether no call failed midway
+-- the journal's version, the cluster with its good entries, its first bad entry, the columns so
+-- far, and whether no call failed midway
 pub record Recording : Type 0 where
   pub version : Version
   pub execution : Execution

@@ -1,4 +1,5 @@
--- the test of satisfaction: it is the relation, it goes by members alone, and the empty set fails it
+-- the test of satisfaction: it is the relation, it goes by members alone, and the empty set fails
+-- it
 use Rattle.std.proofs.Common.{◌≡◌, ◌↔◌, ℕ, ◌+◌, ◌<◌, ◌≤◌, Bool, true, false, leb, ◌&&◌, List, length, filter, Some, refl, sym, ap, ◌∙◌, arith}
 use Rattle.std.specs.List.{IsDistinct}
 use Rattle.std.specs.Set.{is_member}

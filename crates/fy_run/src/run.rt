@@ -108,7 +108,8 @@ fn load_script<R: Read>(alloc: Global, reader: &mut R) -> Result<Vec<Command>, S
 ///
 /// The whole script is read and refused before the first command is applied. The audit is written
 /// in pieces while the commands are applied, and no journal is kept. At most one byte past the
-/// script's limit is read.
+/// script's limit is read. An `Ok` is always `true`: the engines that check an audit say `false` of
+/// one that isn't legal.
 ///
 /// # Errors
 ///

@@ -372,8 +372,12 @@ impl Shared {
     }
 
     /// Two seats tell each other what they have seen: of their two journals one begins with the
-    /// other, and both have then seen the longer. It doesn't allocate, waits for nobody and always
-    /// answers `Ok`. Both seats have to be of this cluster's.
+    /// other, and both have then seen the longer. It doesn't allocate and waits for nobody. Both
+    /// seats have to be of this cluster's.
+    ///
+    /// # Errors
+    ///
+    /// None: the answer is always `Ok`.
     pub fn meet(&self, one: &mut Seat, other: &mut Seat) -> Result<(), NoMemory>
         requires { (one.old.of ≡ Some self.now) × (other.old.of ≡ Some self.now) }
         ensures always { result ≡ Ok tt }

@@ -23,16 +23,16 @@ use Rattle.fy_show.specs.declared.show.Drawn.{Drawn}
 abbrev pub good_of : Finding → ℕ
 good_of finding = unwrap_or finding.first_bad finding.count
 
--- the drawing is that of an audit's entries before the first bad one, or of all, in columns that end
--- as listed, or else are even
+-- the drawing is that of an audit's entries before the first bad one, or of all, in columns that
+-- end as listed, or else are even
 pub record HasDrawn (setup : Setup) (audit : Audit) (laid : Option (List ℕ)) (drawing : Recording) :
     Type 0 where
   pub version : drawing.version ≡ audit.version
   pub those : HasRecorded setup audit.entries drawing
   pub laid_is : drawing.columns.laid ≡ laid
 
--- the drawing is that of an audit's entries before the first bad one, in the columns that the events
--- of these entries give
+-- the drawing is that of an audit's entries before the first bad one, in the columns that the
+-- events of these entries give
 pub record HasDrawnByTime (setup : Setup) (audit : Audit) (finding : Finding) (events : List Event)
     (drawing : Recording) : Type 0 where
   pub columns : TimeColumns

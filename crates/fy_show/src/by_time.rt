@@ -182,9 +182,9 @@ fn document(
 /// document as `run_show` does, whose columns are laid by the times of the events. The answer is
 /// whether the audit is legal.
 ///
-/// The audit is read first, for its faults, and its entries are held; then the events are read. Then
-/// the entries are checked as they are drawn: once more where one is bad, since the columns go by
-/// those before it. All is drawn before the first byte is written.
+/// The audit is read first, for its faults, and its entries are held; then the events are read.
+/// Then the entries are checked as they are drawn: once more where one is bad, since the columns go
+/// by those before it. All is drawn before the first byte is written.
 ///
 /// # Errors
 ///

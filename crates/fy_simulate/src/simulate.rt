@@ -137,6 +137,7 @@ impl Simulation {
         take_turn(self.players.as_mut_slice(), actor, &mut self.cluster)
     }
 
+    /// The cluster, as the turns so far left it.
     fn into_cluster(self) -> Cluster
         ensures { result ≡ self.cluster }
     {
@@ -178,7 +179,8 @@ fn play(
 /// may have entries, and writes the audit. Whose turn it is and what it does is drawn from the
 /// seed, for each actor and for the turns from a stream of its own; fault actors follow the plan.
 ///
-/// All turns are taken before the first byte is written.
+/// All turns are taken before the first byte is written. An `Ok` is always `true`: the engines that
+/// check an audit say `false` of one that isn't legal.
 ///
 /// # Errors
 ///

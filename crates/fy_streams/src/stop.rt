@@ -217,6 +217,11 @@ fn write_worded<W: Write>(writer: &mut W, head: &str, word: &str) -> Result<(), 
 }
 
 /// Writes a line with a number in it.
+///
+/// # Errors
+///
+/// At the first call of `write` that fails or takes no byte. A front of the line is out then, and
+/// never all of it.
 pub fn write_numbered<W: Write>(
     writer: &mut W,
     head: &str,
@@ -232,6 +237,7 @@ pub fn write_numbered<W: Write>(
     write_three(writer, head, digits.format(number), ending)
 }
 
+/// Writes three texts, one behind the other.
 fn write_three<'a, W: Write>(
     writer: &mut W,
     first: &'a str,

@@ -327,6 +327,7 @@ pub(crate) struct Glyphs {
 }
 
 impl Glyphs {
+    /// No order yet, in the first column. The rows say where each process stands.
     pub(crate) fn begin(alloc: Global, rows: Vec<usize>) -> Result<Glyphs, AllocError> {
         let open = Open::begin(alloc, rows.len().saturating_add(1))?;
         Ok(Glyphs {

@@ -120,6 +120,8 @@ fn note(open: &mut [Ring], row: usize, place: usize) -> bool {
 }
 
 impl Rings {
+    /// No deed yet, in the first column. The rows say where each process stands, and the events
+    /// what was done.
     pub(crate) fn begin(
         alloc: Global,
         rows: Vec<usize>,

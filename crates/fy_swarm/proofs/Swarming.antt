@@ -118,7 +118,8 @@ ran_whole {A} {R} given before after n is run count =
 
 -- ---- who plays
 
--- each actor below a number that is let loose has a post: its new seat, and the part that is its player's
+-- each actor below a number that is let loose has a post: its new seat, and the part that is its
+-- player's
 abbrev pub AreCast : {A : Type 0} → (A → SeatState) → (A → Part) → Setup → ℕ → Yard → ℕ → List A → Type 0
 AreCast {A} seat part c seed y i posts =
     (a : ℕ) → a < i → is_active (slice_get c.roles a) ≡ true →
@@ -239,7 +240,8 @@ all_finished {A} seat part end c seed y before after back cast same ran remember
 
 -- ---- the close
 
--- no actor's seat is missing: who rests has its seat as it was, and who is let loose the one at which it has played
+-- no actor's seat is missing: who rests has its seat as it was, and who is let loose the one at
+-- which it has played
 pub none_missing : (c : Setup) (seed : ℕ) (y : Yard) (seats : List SeatState) → AreBack c.roles y (length c.roles) seats → AllFinished c seed y seats
     → Missing (length c.roles) seats → ⊥
 none_missing c seed y seats back done missing =

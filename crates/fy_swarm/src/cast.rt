@@ -43,6 +43,7 @@ fn payloads(alloc: Global) -> Result<Vec<Payload>, AllocError>
 fn storage(alloc: Global, map: &Map) -> Result<StorageDriver, AllocError>
     ensures { IfOk result (λ driver. driver ≡ storing map.now) }
 {
+    // A map has at most 1024 processes, so all of them may be members.
     let _few = map.len();
     let Ok(members) = Members::from_vec(everyone(alloc, map)?) else {
         unreachable!();

@@ -169,6 +169,7 @@ fn run_all_actors<R: Threads + Wait + Sync>(
 ///
 /// All have ended before the first byte is written: each has made the acts of its plan or its rule,
 /// in order and to their end, unless it made a thousand or the journal is full, which is no error.
+/// An `Ok` is always `true`: the engines that check an audit say `false` of one that isn't legal.
 ///
 /// # Errors
 ///

@@ -48,6 +48,7 @@ pub(crate) fn set_of_fit(map: &Map, team: &KeptTeam) -> ProcSet
     ensures { (q : ℕ) → sets.contains result q ≡ is_among team.now.members q }
 {
     let members = team.members.as_slice();
+    // Each member is one of at most 1024 processes, so its number fits the set.
     let _known = has_unknown_process(map, members);
     set_of(members)
 }
@@ -60,6 +61,7 @@ pub(crate) fn swap_in(set: &mut ProcSet, map: &Map, out: ProcId, into: ProcId)
         ≡ (q == into.0 || (not (q == out.0) && sets.contains set.old q)) }
 {
     set.invariant();
+    // A map has at most 1024 processes, so the number of the new one fits the set.
     let _few = map.len();
     set.drop_one(out);
     set.put(into);

@@ -92,6 +92,7 @@ fn fewest_of(
     let shape = policy.shape();
     let needed = fewest_to_satisfy(alloc, shape, map, &map.everyone(), &destroyed)?;
     let lacked = fewest_to_break(alloc, shape, map, &left)?;
+    // A map has at most 1024 processes, so a set has room for as many as can be needed.
     let _few = map.len();
     laws::test_is_satisfaction();
     laws::more_of_map_satisfies();

@@ -2,7 +2,8 @@ use Rattle.std.proofs.Common.{◌+◌, ◌*◌, length}
 use Rattle.fy_policy.proofs.Readings.{PartsSoFar}
 use Rattle.fy_policy.proofs.reading.+shapes.Given as goal
 
--- a shape's head is read before what is in it, and that before the rest: so the text left tells them apart
+-- a shape's head is read before what is in it, and that before the rest: so the text left tells
+-- them apart
 abbrev pub decreases-read_shape : goal.decreases-read_shape
 decreases-read_shape l = 2 * length l.text.now
 

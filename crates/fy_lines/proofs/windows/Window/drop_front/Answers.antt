@@ -1,4 +1,4 @@
-use Rattle.std.proofs.Common.{◌≤◌, ◌-◌, length, drop, ap, arith}
+use Rattle.std.proofs.Common.{◌≤◌, ◌-◌, length, ap, arith}
 use Rattle.fy_lines.specs.Windows.{WindowState}
 use Rattle.fy_lines.proofs.WindowLemmas.{slice_advance, slice_short}
 use Rattle.fy_lines.proofs.windows.Window.drop_front.Goals as goal

@@ -1,5 +1,5 @@
 use Rattle.std.proofs.Common.{◌≡◌, All, Some, sym, subst}
-use Rattle.fy_examples.proofs.yard.opened.Goals as goal
+use Rattle.fy_examples.proofs.shared.opened.Goals as goal
 
 pub returns-in-Ok : goal.returns-in-Ok
 returns-in-Ok c =
