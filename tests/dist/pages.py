@@ -43,7 +43,11 @@ def tables_are_current() -> None:
     said("release/pages", "tables", "--check")
     pages = {path.name: text for path, text in module.renewed().items()}
     assert f"| `{module.read_faults()[0].line}` |" in pages["FORMATS.md"]
-    for source, page in (("faults", "FORMATS.md"), ("strikes", "GUARD.md")):
+    for source, page in (
+        ("faults", "FORMATS.md"),
+        ("strikes", "GUARD.md"),
+        ("ends", "NEMESIS.md"),
+    ):
         changed = module.with_table(pages[page], "| another |", f"docs/{source}.toml")
         assert changed != pages[page], f"a change of {page} isn't seen"
 
@@ -62,6 +66,23 @@ def guard_tells_each_strike() -> None:
     for _, text in (*module.strikes(), *module.joins(), ("", f"**{module.rule()}**")):
         assert text in page, f"GUARD lacks {text}"
         assert module.in_man_filled(text) in manual, f"faultyard-guard.1 lacks {text}"
+
+
+def nemesis_tells_each_end() -> None:
+    """NEMESIS and the man page have a row for each status of the tool, and the same rule."""
+    module = generator()
+    code = (ROOT / "tools/nemesis/__init__.py").read_text()
+    count = re.search(r"^NONE_LOST, .* = range\((\d+)\)$", code, re.MULTILINE)
+    assert count, "the statuses of faultyard-nemesis aren't found"
+    wanted = [*map(str, range(int(count[1]))), "128 + N"]
+    assert [status for status, _ in module.ends()] == wanted, wanted
+    with tempfile.TemporaryDirectory() as folder:
+        said("release/pages", "man", folder)
+        manual = (Path(folder) / "faultyard-nemesis.1").read_text()
+    page = (ROOT / "docs/NEMESIS.md").read_text()
+    for text in (module.rule(module.ENDS), *(means for _, means in module.ends())):
+        assert text in page, f"NEMESIS lacks {text}"
+        assert module.in_man_filled(text) in manual, f"faultyard-nemesis.1 lacks {text}"
 
 
 def words_of(name: str, specs: str) -> list[str]:
@@ -312,6 +333,7 @@ def completes_in_fish() -> None:
 CHECKS = [
     tables_are_current,
     guard_tells_each_strike,
+    nemesis_tells_each_end,
     table_has_the_proved_lines,
     table_explains_each_case,
     man_pages_have_no_warning,

@@ -43,6 +43,8 @@ BOOKS: dict[str, tuple[str, int, Callable[[str], int]]] = {
     "Use": (USE, 20_000, words),
     "Inside": (INSIDE, 12_000, words_and_signs),
 }
+# What the source alone says, which is on the site beside the pages of a book.
+MADE = {"docs/CONTRACTS.md", "docs/DEFINITIONS.md"}
 # What a page alone may have, with all that stands between blanks.
 PAGES = {"README.md": 1200, "docs/ARCHITECTURE.md": 2500}
 
@@ -51,6 +53,12 @@ def counts(book: str) -> dict[str, int]:
     places, _, count = BOOKS[book]
     found = sorted(path for place in places.split() for path in ROOT.glob(place))
     return {str(path.relative_to(ROOT)): count(path.read_text()) for path in found}
+
+
+def of_the_site(book: str) -> set[str]:
+    """The pages of a book's tab on the site."""
+    tab = (ROOT / "mkdocs.yml").read_text().partition(f"\n  - {book}:\n")[2]
+    return set(re.findall(r"(\S+\.md)$", re.split(r"(?m)^  - ", tab)[0], re.M))
 
 
 def too_long() -> Iterator[str]:
@@ -85,6 +93,10 @@ class Lengths(unittest.TestCase):
         for its in BOOKS.values():
             lacking = [it for it in its[0].split() if not [*ROOT.glob(it)]]
             self.assertEqual(lacking, [])
+
+    def test_a_tab_of_the_site_has_the_pages_that_are_counted(self) -> None:
+        for book in BOOKS:
+            self.assertEqual(of_the_site(book) - MADE, {*counts(book)})
 
 
 if __name__ == "__main__":

@@ -189,6 +189,14 @@ class Reading(unittest.TestCase):
         told = "page.md: the source has no listen, which it names as `Shown::listen`"
         self.assertEqual([*names.unknown([page])], [told])
 
+    def test_a_path_on_a_page_ends_one_of_the_repository(self) -> None:
+        subprocess.run(["git", "init", "--quiet", source.ROOT], check=True)
+        page = source.ROOT / "page.md"
+        right = "`src/hidden.rt`, `crates/NAME/src/lib.rt`, `specs/*.antt`, `bin/libfaultyard.so`"
+        page.write_text(f"{right}, `high/src/hidden.rt`, `rc/hidden.rt`, `../low/hidden.rt`\n")
+        told = [it.rpartition(" ")[2] for it in names.unknown([page])]
+        self.assertEqual(told, ["`high/src/hidden.rt`", "`rc/hidden.rt`", "`../low/hidden.rt`"])
+
 
 HOOKS = '''#!/usr/bin/env python3
 """What documents

@@ -1,4 +1,5 @@
-"""Names that pages set as code: each has to stand in the source, or in the formats."""
+"""Names that pages set as code: each has to stand in the source, or in the formats, and a path with
+a file's suffix has to end one of the repository's."""
 
 from __future__ import annotations
 
@@ -11,6 +12,15 @@ from source import ROOT
 
 # A name, or a path of names; the last may be a list of them.
 NAME = re.compile(r"\w+(?:(?:::|\.|/)\w+)*(?:::\{[\w, ]+\})?(?:\(\))?")
+# A path with a suffix, from wherever the page begins it.
+PATH = re.compile(r"(?:\.\.?/)*([\w*-][\w.*-]*(?:/[\w.*-]+)*\.[A-Za-z]\w*)")
+# What stands in a path for any name, and for any folders.
+GAPS = {"NAME": "[^/]+", "WHAT": "[^/]+", "*": "[^/]+", "PATH": ".+"}
+# Files that git doesn't know, and what makes them.
+GENERATED = {
+    "bin/libfaultyard.a": "make lib",
+    "bin/libfaultyard.so": "make lib",
+}
 FENCED = re.compile(r"(?ms)^ *```.*?^ *```$")
 # What holds names that are gone, or that never were.
 APART = ("CHANGELOG.md",)
@@ -32,7 +42,6 @@ OTHERS = {
     "QUORUM": "Cassandra",
     "LOCAL_QUORUM": "Cassandra",
     "limit_WHAT": "a name with a gap",
-    "mutants/limit_WHAT.edit": "a name with a gap",
 }
 
 
@@ -54,21 +63,36 @@ def known() -> set[str]:
     return found
 
 
-def named_in(text: str) -> Iterator[tuple[str, list[str]]]:
-    """Each span of code that is a name, with its words; code in blocks is tested elsewhere."""
-    for span in re.findall(r"`([^`\n]+)`", FENCED.sub("", text)):
-        if NAME.fullmatch(span) and not span[0].isdigit():
-            yield span, re.findall(r"\w+", span)
+def code_in(text: str) -> list[str]:
+    """Each span of code once; code in blocks is tested elsewhere."""
+    return [*dict.fromkeys(re.findall(r"`([^`\n]+)`", FENCED.sub("", text)))]
+
+
+def ends_a_path(span: str, paths: str) -> bool:
+    """The span is the end of one of the paths, each of which stands on a line behind a slash."""
+    end = "".join(GAPS.get(it) or re.escape(it) for it in re.split(r"(\*|NAME|WHAT|PATH)", span))
+    return re.search(rf"(?m)^.*/{end}$", paths) is not None
+
+
+def unknown_in(text: str, words: set[str], paths: str) -> Iterator[tuple[str, str]]:
+    """Each span that is a name or a path, with what the source lacks of it."""
+    for span in code_in(text):
+        if span in OTHERS or span[0].isdigit():
+            continue
+        if "/" in span and (path := PATH.fullmatch(span)):
+            if not ends_a_path(path[1], paths):
+                yield span, "such path"
+        elif NAME.fullmatch(span):
+            lacking = [it for it in re.findall(r"\w+", span) if it not in words]
+            yield from ((span, it) for it in lacking[:1])
 
 
 def unknown(pages: Iterable[Path]) -> Iterator[str]:
     words = known()
+    there = [*(str(it.relative_to(ROOT)) for it in files()), *GENERATED]
+    paths = "".join(f"/{it}\n" for it in there)
     for path in pages:
-        if not str(path.relative_to(ROOT)).startswith(APART):
-            for span, parts in dict.fromkeys(
-                (span, tuple(parts)) for span, parts in named_in(path.read_text())
-            ):
-                lacking = [it for it in parts if it not in words]
-                if lacking and span not in OTHERS:
-                    name = path.relative_to(ROOT)
-                    yield f"{name}: the source has no {lacking[0]}, which it names as `{span}`"
+        name = path.relative_to(ROOT)
+        if not str(name).startswith(APART):
+            for span, lacking in unknown_in(path.read_text(), words, paths):
+                yield f"{name}: the source has no {lacking}, which it names as `{span}`"
