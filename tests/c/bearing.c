@@ -1,4 +1,5 @@
-/* How much may still be lost, held against every set of the six processes, and against what `faultyard bears` prints. */
+/* How much may still be lost, held against every set of the six processes, and against what
+ * `faultyard bears` prints. */
 #include "faultyard.h"
 #include "told.h"
 
@@ -82,7 +83,8 @@ static const char *const CROSSED =
     "  {processid = \"p3\", machineid = \"m1\", zoneid = \"z0\"}, {processid = \"p4\", machineid = \"m2\", zoneid = \"z0\"}]\n"
     "actor = [{role = \"storage\"}]\n";
 
-/* What `faultyard bears` prints of these clusters, and each status; FY_NO_MEMORY is that of memory.c. */
+/* What `faultyard bears` prints of these clusters, and each status; FY_NO_MEMORY is that of
+ * memory.c. */
 static void cases(void)
 {
     fy_guard six = open_guard(SIX), three = open_guard(THREE), crossed = open_guard(CROSSED),

@@ -1,4 +1,5 @@
-/* Audits that are checked line by line, by the words of docs/FORMATS.md. checks.py compares what is found with `faultyard check`. */
+/* Audits that are checked line by line, by the words of docs/FORMATS.md. checks.py compares what is
+ * found with `faultyard check`. */
 #include "faultyard.h"
 #include "told.h"
 
@@ -202,9 +203,9 @@ static void closed(void)
     fy_check_end(&check);
 }
 
-/* Lines of 65,536 bytes, until there are more bytes than an audit may have. The first is a stranger's
- * and isn't told so, thus bad: no act is made once more. Under
- * valgrind this takes minutes: the word `long` asks for it. */
+/* Lines of 65,536 bytes, until there are more bytes than an audit may have. The first is a
+ * stranger's and isn't told so, thus bad: no act is made once more. Under valgrind this takes
+ * minutes: the word `long` asks for it. */
 static void longest_audit(void)
 {
     static char line[65600];

@@ -165,7 +165,8 @@ static void act(fy_guard *guard, const char *line)
     EQUAL(strstr(buffer, "\"no\"") == NULL, 1);
 }
 
-/* The sets of a guard: who is up, left, destroyed and gone. What has become of each process agrees. */
+/* The sets of a guard: who is up, left, destroyed and gone. What has become of each process
+ * agrees. */
 static void sets_are(const fy_guard *guard, uint64_t up, uint64_t left, uint64_t destroyed,
                      uint64_t gone)
 {
@@ -201,8 +202,8 @@ static void targets_are(const fy_guard *guard, fy_key key, const char *value, ui
     SET(set, wanted);
 }
 
-/* Whom a kill would be about, and what has become of whom: emptied is destroyed and left, killed for good is gone, and a
- * process that is healed is neither. */
+/* Whom a kill would be about, and what has become of whom: emptied is destroyed and left, killed
+ * for good is gone, and a process that is healed is neither. */
 static void sets(void)
 {
     fy_guard guard = open_guard(SIX);
@@ -304,7 +305,8 @@ static void now_is(const fy_guard *guard, uint64_t wanted)
     EQUAL(seen.now, wanted);
 }
 
-/* A copy has the journal of its guard. What is done with one changes nothing of the other, and each is closed alone. */
+/* A copy has the journal of its guard. What is done with one changes nothing of the other, and each
+ * is closed alone. */
 static void copies(void)
 {
     fy_guard guard = open_guard(SIX), other = {&guard}, third = {&guard};
@@ -321,7 +323,8 @@ static void copies(void)
     EQUAL(other.at != guard.at, 1);
     same_journal(&guard, &other, 5);
     sets_are(&other, 0x3c, 0x3c, 0x03, 0x03);
-    /* The copy looks ahead: zone z1 is only rebooted. Nothing of it is in the guard, nor of what the guard does in the copy. */
+    /* The copy looks ahead: zone z1 is only rebooted. Nothing of it is in the guard, nor of what
+     * the guard does in the copy. */
     EQUAL(kill(&other, 1, FY_ZONE, "z1", FY_KILL_INSTANTLY, FY_REBOOT), FY_DONE);
     EQUAL(struck, FY_REBOOT);
     sets_are(&other, 0x30, 0x3c, 0x03, 0x03);
@@ -357,7 +360,8 @@ static void full_copies(void)
     fy_guard_close(&guard);
 }
 
-/* A guard that isn't opened is closed, whatever it was. One that is to be its own copy stays as it is. */
+/* A guard that isn't opened is closed, whatever it was. One that is to be its own copy stays as it
+ * is. */
 static void no_copies(void)
 {
     fy_guard guard = {0}, other = {&guard};
@@ -426,7 +430,8 @@ static void needed_is(const fy_guard *guard, uint32_t process, uint32_t wanted)
     EQUAL(record, wanted);
 }
 
-/* A record of processes 0 and 2 is acknowledged by the second word, and kept by the least of them that isn't destroyed. */
+/* A record of processes 0 and 2 is acknowledged by the second word, and kept by the least of them
+ * that isn't destroyed. */
 static void records(void)
 {
     fy_guard guard = open_guard(SIX);

@@ -1,5 +1,6 @@
-/* Each request for memory of each call refused in turn: the call answers FY_NO_MEMORY, and nothing changed; or it gets on
- * without, as a reader whose scan of a line had no memory, and does what it says. */
+/* Each request for memory of each call refused in turn: the call answers FY_NO_MEMORY, and nothing
+ * changed; or it gets on without, as a reader whose scan of a line had no memory, and does what it
+ * says. */
 #include "faultyard.h"
 #include "refuse.h"
 #include "told.h"
@@ -120,8 +121,8 @@ static fy_status numbered(int which, fy_guard *guard, fy_reply *reply)
     }
 }
 
-/* Each request for memory of each of them refused in turn: it answers FY_NO_MEMORY, tells nothing, and nothing changed. There are
- * eight entries before, so that each needs room for its own. */
+/* Each request for memory of each of them refused in turn: it answers FY_NO_MEMORY, tells nothing,
+ * and nothing changed. There are eight entries before, so that each needs room for its own. */
 static void refuse_numbered(void)
 {
     static const fy_reply nothing;
@@ -209,8 +210,8 @@ static size_t asks(int which, size_t entries)
     return bytes;
 }
 
-/* What reset and audit ask for is the same however long the journal is, unlike a copy. Audit asks at once for at most twice the
- * bytes of its line. */
+/* What reset and audit ask for is the same however long the journal is, unlike a copy. Audit asks
+ * at once for at most twice the bytes of its line. */
 static void asked_for(void)
 {
     static const char payload[32000];

@@ -1,5 +1,6 @@
-/* Each request for memory of the calls of plans and checks refused in turn: the call answers FY_NO_MEMORY, and nothing is written
- * or read; or it gets on without, as a reader whose scan of a line had no memory, and does what it says. */
+/* Each request for memory of the calls of plans and checks refused in turn: the call answers
+ * FY_NO_MEMORY, and nothing is written or read; or it gets on without, as a reader whose scan of a
+ * line had no memory, and does what it says. */
 #include "faultyard.h"
 #include "refuse.h"
 #include "told.h"
@@ -71,7 +72,8 @@ static const char *const LINES[] = {
 
 enum { LINE_COUNT = sizeof LINES / sizeof *LINES };
 
-/* The lines of an audit whose last entry is bad, up to one for which a request is refused; then that line and the rest. */
+/* The lines of an audit whose last entry is bad, up to one for which a request is refused; then
+ * that line and the rest. */
 static void checks(void)
 {
     long held = live, refused = 0, unread = 0;

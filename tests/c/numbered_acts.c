@@ -1,5 +1,6 @@
-/* Random acts of every kind, each made by its call by numbers: their lines go to the file of the first word, and the journal to that
- * of the second. What each call tells is the reply of its entry. */
+/* Random acts of every kind, each made by its call by numbers: their lines go to the file of the
+ * first word, and the journal to that of the second. What each call tells is the reply of its
+ * entry. */
 #include "faultyard.h"
 #include "told.h"
 

@@ -1,5 +1,5 @@
-/* Guards that are opened where an audit ends: on worked audits and on each front of a guard's journal; and with each request for
- * memory refused in turn. */
+/* Guards that are opened where an audit ends: on worked audits and on each front of a guard's
+ * journal; and with each request for memory refused in turn. */
 #include "faultyard.h"
 #include "refuse.h"
 #include "told.h"
@@ -35,7 +35,8 @@ static void refused(const char *config, const char *audit, fy_status status, uin
     fy_guard_close(&guard);
 }
 
-/* The audit that is worked out in docs/FORMATS.md: behind its first entry the second is answered so. */
+/* The audit that is worked out in docs/FORMATS.md: behind its first entry the second is answered
+ * so. */
 static void worked(void)
 {
     static const char audit[] = FY_AUDIT_HEADER KILLED;
@@ -109,7 +110,8 @@ static void closed(void)
     EQUAL(first_bad, 77);
 }
 
-/* Acts of each kind that leaves something behind; each front of their journal is gone on from, and the rest is made. */
+/* Acts of each kind that leaves something behind; each front of their journal is gone on from, and
+ * the rest is made. */
 static const char *const STORY[] = {
     "{\"by\":0,\"act\":{\"form\":{\"members\":[0,2],\"policy\":0}}}",
     "{\"by\":0,\"act\":{\"begin\":{\"payload\":\"6869\",\"team\":0}}}",

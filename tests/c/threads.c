@@ -1,5 +1,5 @@
-/* Two guards in two threads, each as if it were alone; and one guard that eight threads take in turns, whose audit is written to
- * the file of the word. */
+/* Two guards in two threads, each as if it were alone; and one guard that eight threads take in
+ * turns, whose audit is written to the file of the word. */
 #include "faultyard.h"
 #include "told.h"
 #include <pthread.h>
@@ -39,7 +39,8 @@ static void *play(void *given)
     return given;
 }
 
-/* A guard that one thread opened and another closes, and the mutex that those take who make a call with it. */
+/* A guard that one thread opened and another closes, and the mutex that those take who make a call
+ * with it. */
 static fy_guard shared;
 static pthread_mutex_t turn = PTHREAD_MUTEX_INITIALIZER;
 

@@ -106,7 +106,10 @@ final class GuardTest {
         }
     }
 
-    /** Each file has a block: how many processes there are, and a line for each value of standard input. */
+    /**
+     * Each file has a block: how many processes there are, and a line for each value of standard
+     * input.
+     */
     private static void places(String program, List<String> configs) throws IOException {
         BufferedReader lines = new BufferedReader(new InputStreamReader(System.in, StandardCharsets.US_ASCII));
         List<String> asked = lines.lines().collect(Collectors.toList());
