@@ -79,8 +79,10 @@ static const char *const CROSSED =
     "journal_limit = 9\n"
     "policies = [\"And(Across(3,zoneid,One()),Across(3,machineid,One()))\"]\n"
     "process = [{processid = \"p0\", machineid = \"m0\", zoneid = \"z0\"},\n"
-    "  {processid = \"p1\", machineid = \"m0\", zoneid = \"z1\"}, {processid = \"p2\", machineid = \"m0\", zoneid = \"z2\"},\n"
-    "  {processid = \"p3\", machineid = \"m1\", zoneid = \"z0\"}, {processid = \"p4\", machineid = \"m2\", zoneid = \"z0\"}]\n"
+    "  {processid = \"p1\", machineid = \"m0\", zoneid = \"z1\"}, "
+    "{processid = \"p2\", machineid = \"m0\", zoneid = \"z2\"},\n"
+    "  {processid = \"p3\", machineid = \"m1\", zoneid = \"z0\"}, "
+    "{processid = \"p4\", machineid = \"m2\", zoneid = \"z0\"}]\n"
     "actor = [{role = \"storage\"}]\n";
 
 /* What `faultyard bears` prints of these clusters, and each status; FY_NO_MEMORY is that of

@@ -11,14 +11,18 @@
     ",\"by\":0,\"reply\":{\"no\":[\"NotDestroyed\"]}}\n"
 
 static const char *const KILLED =
-    "{\"act\":{\"kill\":{\"floor\":\"Reboot\",\"key\":\"zoneid\",\"kind\":\"KillInstantly\",\"tear\":0,\"value\":\"z0\"}},"
+    "{\"act\":{\"kill\":{\"floor\":\"Reboot\",\"key\":\"zoneid\",\"kind\":\"KillInstantly\","
+    "\"tear\":0,\"value\":\"z0\"}},"
     "\"at\":0,\"by\":1,\"reply\":{\"verdict\":{\"rule\":null,\"struck\":\"KillInstantly\"}}}\n";
 static const char *const REBOOTED =
-    "{\"act\":{\"kill\":{\"floor\":\"Reboot\",\"key\":\"zoneid\",\"kind\":\"KillInstantly\",\"tear\":0,\"value\":\"z1\"}},"
-    "\"at\":1,\"by\":1,\"reply\":{\"verdict\":{\"rule\":[\"TooManyDestroyed\",0],\"struck\":\"Reboot\"}}}\n";
+    "{\"act\":{\"kill\":{\"floor\":\"Reboot\",\"key\":\"zoneid\",\"kind\":\"KillInstantly\","
+    "\"tear\":0,\"value\":\"z1\"}},"
+    "\"at\":1,\"by\":1,\"reply\":{\"verdict\":{\"rule\":[\"TooManyDestroyed\",0],"
+    "\"struck\":\"Reboot\"}}}\n";
 /* What would destroy the last copy: no rule allows it. */
 static const char *const KILLED_TOO =
-    "{\"act\":{\"kill\":{\"floor\":\"Reboot\",\"key\":\"zoneid\",\"kind\":\"KillInstantly\",\"tear\":0,\"value\":\"z1\"}},"
+    "{\"act\":{\"kill\":{\"floor\":\"Reboot\",\"key\":\"zoneid\",\"kind\":\"KillInstantly\","
+    "\"tear\":0,\"value\":\"z1\"}},"
     "\"at\":1,\"by\":1,\"reply\":{\"verdict\":{\"rule\":null,\"struck\":\"KillInstantly\"}}}\n";
 
 static fy_check begin(const char *config)

@@ -3,13 +3,17 @@
 #include "told.h"
 
 static const char *KILLED_ZONE =
-    "{\"act\":{\"kill\":{\"floor\":\"Reboot\",\"key\":\"zoneid\",\"kind\":\"KillInstantly\",\"tear\":0,\"value\":\"z0\"}},"
+    "{\"act\":{\"kill\":{\"floor\":\"Reboot\",\"key\":\"zoneid\",\"kind\":\"KillInstantly\","
+    "\"tear\":0,\"value\":\"z0\"}},"
     "\"at\":0,\"by\":1,\"reply\":{\"verdict\":{\"rule\":null,\"struck\":\"KillInstantly\"}}}\n";
 static const char *REBOOTED_ZONE =
-    "{\"act\":{\"kill\":{\"floor\":\"Reboot\",\"key\":\"zoneid\",\"kind\":\"KillInstantly\",\"tear\":0,\"value\":\"z1\"}},"
-    "\"at\":1,\"by\":1,\"reply\":{\"verdict\":{\"rule\":[\"TooManyDestroyed\",0],\"struck\":\"Reboot\"}}}\n";
+    "{\"act\":{\"kill\":{\"floor\":\"Reboot\",\"key\":\"zoneid\",\"kind\":\"KillInstantly\","
+    "\"tear\":0,\"value\":\"z1\"}},"
+    "\"at\":1,\"by\":1,\"reply\":{\"verdict\":{\"rule\":[\"TooManyDestroyed\",0],"
+    "\"struck\":\"Reboot\"}}}\n";
 static const char *KILL_ZONE =
-    "{\"by\":1,\"act\":{\"kill\":{\"key\":\"zoneid\",\"value\":\"z1\",\"kind\":\"KillInstantly\",\"floor\":\"Reboot\",\"tear\":0}}}";
+    "{\"by\":1,\"act\":{\"kill\":{\"key\":\"zoneid\",\"value\":\"z1\",\"kind\":\"KillInstantly\","
+    "\"floor\":\"Reboot\",\"tear\":0}}}";
 
 static fy_status kill(fy_guard *guard, uint32_t actor, fy_key key, const char *value, fy_kind kind,
                       fy_kind floor)
@@ -497,8 +501,8 @@ static void errors(void)
     EQUAL(kill(&guard, 1, FY_PROCESS, "p0", FY_REBOOT, FY_KILL_INSTANTLY), FY_FLOOR);
     EQUAL(fy_guard_act(&guard, "", 0, buffer, sizeof buffer, &told), FY_LINE_SYNTAX);
     EQUAL(fy_guard_act(&guard, "{}", 2, buffer, sizeof buffer, &told), FY_LINE_SYNTAX);
-    const char *above =
-        "{\"by\":1,\"act\":{\"kill\":{\"floor\":\"Reboot\",\"key\":\"zoneid\",\"kind\":\"RebootProcess\",\"tear\":0,\"value\":\"z0\"}}}";
+    const char *above = "{\"by\":1,\"act\":{\"kill\":{\"floor\":\"Reboot\",\"key\":\"zoneid\","
+                        "\"kind\":\"RebootProcess\",\"tear\":0,\"value\":\"z0\"}}}";
     EQUAL(fy_guard_act(&guard, above, strlen(above), buffer, sizeof buffer, &told), FY_FLOOR);
     static char longest[65537], large[65537 + FY_MOST_REPLY];
     memset(longest, ' ', sizeof longest);
@@ -566,14 +570,15 @@ static void cluster_files(void)
          FY_PART_UNKNOWN, 0},
         {"journal_limit = 1\n" REST("Across(2,zoneid,One())", "z 1"), FY_CONFIG_NAME,
          FY_PART_PROCESS, 1},
-        {"journal_limit = 1\nprotect = [{process = \"p0\", kinds = [\"Reboot\"]}, {process = \"p9\", kinds = [\"Reboot\"]}]\n" REST(
-             "Across(2,zoneid,One())", "z1"),
+        {"journal_limit = 1\nprotect = [{process = \"p0\", kinds = [\"Reboot\"]}, "
+         "{process = \"p9\", kinds = [\"Reboot\"]}]\n" REST("Across(2,zoneid,One())", "z1"),
          FY_CONFIG_NAME, FY_PART_PROTECT, 1},
         {"journal_limit = 1\n" PROCESSES("Across(2,zoneid,One())", "z1") "actor = []\n",
          FY_CONFIG_LIMIT, FY_PART_ACTOR, 0},
         {"journal_limit = 1\n" PROCESSES(
              "Across(2,zoneid,One())",
-             "z1") "actor = [{role = \"fault\"}, {role = \"fault\", grants = [{kinds = [], key = \"zoneid\", value = \"-\"}]}]\n",
+             "z1") "actor = [{role = \"fault\"}, {role = \"fault\", grants = [{kinds = [], "
+                   "key = \"zoneid\", value = \"-\"}]}]\n",
          FY_CONFIG_NAME, FY_PART_ACTOR, 1},
         {"journal_limit = 1\n" REST("Across(2,zone,One())", "z1"), FY_CONFIG_POLICY,
          FY_PART_POLICIES, 0},

@@ -12,7 +12,8 @@ static const char *LINES[] = {
     "{ \"act\": {\"deliver\": {\"message\": 1}}, \"by\": 0 }",
     "{\"by\":0,\"act\":{\"sync\":{\"process\":0}}}",
     "{\"by\":4,\"act\":{\"give\":{\"actor\":3,\"kinds\":[\"Reboot\"],\"scope\":\"all\"}}}",
-    "{\"by\":1,\"act\":{\"kill\":{\"key\":\"zoneid\",\"value\":\"z1\",\"kind\":\"KillInstantly\",\"floor\":\"Reboot\",\"tear\":0}}}",
+    "{\"by\":1,\"act\":{\"kill\":{\"key\":\"zoneid\",\"value\":\"z1\",\"kind\":\"KillInstantly\","
+    "\"floor\":\"Reboot\",\"tear\":0}}}",
 };
 
 static char before[100000], after[100000];

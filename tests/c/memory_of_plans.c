@@ -63,11 +63,15 @@ static void plans(void)
 
 static const char *const LINES[] = {
     FY_AUDIT_HEADER,
-    "{\"act\":{\"form\":{\"members\":[0,2],\"policy\":0}},\"at\":0,\"by\":0,\"reply\":{\"formed\":0}}\n",
-    "{\"act\":{\"begin\":{\"payload\":\"6869\",\"team\":0}},\"at\":1,\"by\":0,\"reply\":{\"begun\":{\"first\":0,\"record\":0}}}\n",
+    "{\"act\":{\"form\":{\"members\":[0,2],\"policy\":0}},\"at\":0,\"by\":0,"
+    "\"reply\":{\"formed\":0}}\n",
+    "{\"act\":{\"begin\":{\"payload\":\"6869\",\"team\":0}},\"at\":1,\"by\":0,"
+    "\"reply\":{\"begun\":{\"first\":0,\"record\":0}}}\n",
     "{\"act\":{\"deliver\":{\"message\":0}},\"at\":2,\"by\":0,\"reply\":\"stored\"}\n",
-    "{\"act\":{\"sync\":{\"process\":0}},\"at\":3,\"by\":0,\"reply\":{\"synced\":{\"count\":1,\"first\":2}}}\n",
-    "{\"act\":{\"sync\":{\"process\":0}},\"at\":4,\"by\":0,\"reply\":{\"synced\":{\"count\":1,\"first\":2}}}\n",
+    "{\"act\":{\"sync\":{\"process\":0}},\"at\":3,\"by\":0,"
+    "\"reply\":{\"synced\":{\"count\":1,\"first\":2}}}\n",
+    "{\"act\":{\"sync\":{\"process\":0}},\"at\":4,\"by\":0,"
+    "\"reply\":{\"synced\":{\"count\":1,\"first\":2}}}\n",
 };
 
 enum { LINE_COUNT = sizeof LINES / sizeof *LINES };

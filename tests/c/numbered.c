@@ -13,13 +13,13 @@ static void tells(int line, fy_reply wanted)
     if (memcmp(&reply, &wanted, sizeof reply) == 0)
         return;
     wrong++;
-    fprintf(
-        stderr,
-        "line %d: refusal %u rule %u named %llu team %u record %u message %llu synced %llu now %llu marked %u acked %u\n",
-        line, (unsigned)reply.refusal, (unsigned)reply.rule, (unsigned long long)reply.named,
-        (unsigned)reply.team, (unsigned)reply.record, (unsigned long long)reply.message,
-        (unsigned long long)reply.synced, (unsigned long long)reply.now, (unsigned)reply.marked,
-        (unsigned)reply.acked);
+    fprintf(stderr,
+            "line %d: refusal %u rule %u named %llu team %u record %u message %llu synced %llu"
+            " now %llu marked %u acked %u\n",
+            line, (unsigned)reply.refusal, (unsigned)reply.rule, (unsigned long long)reply.named,
+            (unsigned)reply.team, (unsigned)reply.record, (unsigned long long)reply.message,
+            (unsigned long long)reply.synced, (unsigned long long)reply.now, (unsigned)reply.marked,
+            (unsigned)reply.acked);
 }
 
 #define ANSWERS(wanted_status, call, ...)         \
@@ -172,10 +172,10 @@ static void rights(void)
     /* A grant of a zone covers the zone alone, and the kinds that it has. */
     uint32_t grant = FY_KINDS_REBOOT | FY_KINDS_CLOG;
     DONE(fy_guard_give(&guard, OPERATOR, GRANTLESS, grant, FY_ZONE, "z1", &reply), 0);
-    entered(
-        &guard,
-        "{\"give\":{\"actor\":3,\"kinds\":[\"Reboot\",\"Clog\"],\"scope\":{\"key\":\"zoneid\",\"value\":\"z1\"}}}",
-        "\"done\"");
+    entered(&guard,
+            "{\"give\":{\"actor\":3,\"kinds\":[\"Reboot\",\"Clog\"],\"scope\":{\"key\":\"zoneid\","
+            "\"value\":\"z1\"}}}",
+            "\"done\"");
     DONE(fy_guard_clog(&guard, GRANTLESS, FY_ZONE, "z1", 1, &reply), 0);
     DONE(fy_guard_clog(&guard, GRANTLESS, FY_ZONE, "z2", 1, &reply), .rule = FY_NO_GRANT,
          .named = 4);

@@ -106,10 +106,10 @@ static void strike(uint32_t by, uint32_t which)
     char value[16];
     sprintf(value, "%c%u", LETTERS[key], (unsigned)below(7));
     if (which == 0) {
-        sprintf(
-            act,
-            "{\"kill\":{\"floor\":\"%s\",\"key\":\"%s\",\"kind\":\"%s\",\"tear\":5,\"value\":\"%s\"}}",
-            KINDS[floor], KEYS[key], KINDS[kind], value);
+        sprintf(act,
+                "{\"kill\":{\"floor\":\"%s\",\"key\":\"%s\",\"kind\":\"%s\",\"tear\":5,"
+                "\"value\":\"%s\"}}",
+                KINDS[floor], KEYS[key], KINDS[kind], value);
         verdict_told(fy_guard_kill(&guard, by, (fy_key)(key + 1), value, (fy_kind)(kind + 1),
                                    (fy_kind)(floor + 1), 5, &struck, &rule, &named));
     } else if (which == 1) {

@@ -7,9 +7,10 @@
 #define FIRST_HEADER "{\"audit\":1}\n"
 #define TICK(at, now) \
     "{\"act\":{\"tick\":{\"ticks\":1}},\"at\":" at ",\"by\":0,\"reply\":{\"time\":" now "}}\n"
-#define KILL(value, at, verdict)                                                                         \
-    "{\"act\":{\"kill\":{\"floor\":\"Reboot\",\"key\":\"zoneid\",\"kind\":\"KillInstantly\",\"tear\":0," \
-    "\"value\":\"" value "\"}},\"at\":" at ",\"by\":1,\"reply\":{\"verdict\":" verdict "}}\n"
+#define KILL(value, at, verdict)                                                                  \
+    "{\"act\":{\"kill\":{\"floor\":\"Reboot\",\"key\":\"zoneid\",\"kind\":\"KillInstantly\","     \
+    "\"tear\":0,\"value\":\"" value "\"}},\"at\":" at ",\"by\":1,\"reply\":{\"verdict\":" verdict \
+    "}}\n"
 #define KILLED KILL("z0", "0", "{\"rule\":null,\"struck\":\"KillInstantly\"}")
 #define REBOOTED KILL("z1", "1", "{\"rule\":[\"TooManyDestroyed\",0],\"struck\":\"Reboot\"}")
 /* What would destroy the last copy: no rule allows it. */
@@ -121,14 +122,16 @@ static const char *const STORY[] = {
     "{\"by\":0,\"act\":{\"sync\":{\"process\":2}}}",
     "{\"by\":0,\"act\":{\"deliver\":{\"message\":2}}}",
     "{\"by\":0,\"act\":{\"deliver\":{\"message\":3}}}",
-    "{\"by\":1,\"act\":{\"kill\":{\"key\":\"zoneid\",\"value\":\"z0\",\"kind\":\"RebootAndDelete\",\"floor\":\"Reboot\",\"tear\":0}}}",
+    "{\"by\":1,\"act\":{\"kill\":{\"key\":\"zoneid\",\"value\":\"z0\","
+    "\"kind\":\"RebootAndDelete\",\"floor\":\"Reboot\",\"tear\":0}}}",
     "{\"by\":0,\"act\":{\"up\":{\"process\":0}}}",
     "{\"by\":0,\"act\":{\"heal\":{\"process\":0}}}",
     "{\"by\":1,\"act\":{\"clog\":{\"key\":\"zoneid\",\"value\":\"z2\",\"ticks\":3}}}",
     "{\"by\":0,\"act\":{\"tick\":{\"ticks\":2}}}",
     "{\"by\":4,\"act\":{\"give\":{\"actor\":3,\"kinds\":[\"Reboot\"],\"scope\":\"all\"}}}",
     "{\"by\":4,\"act\":{\"protect\":{\"process\":4,\"kinds\":[\"Reboot\"]}}}",
-    "{\"by\":1,\"act\":{\"kill\":{\"key\":\"zoneid\",\"value\":\"z1\",\"kind\":\"KillInstantly\",\"floor\":\"Reboot\",\"tear\":0}}}",
+    "{\"by\":1,\"act\":{\"kill\":{\"key\":\"zoneid\",\"value\":\"z1\",\"kind\":\"KillInstantly\","
+    "\"floor\":\"Reboot\",\"tear\":0}}}",
 };
 
 enum { LINES = sizeof STORY / sizeof *STORY };

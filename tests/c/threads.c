@@ -64,8 +64,8 @@ static void *share(void *given)
         if (i % 2 == 0)
             snprintf(
                 line, sizeof line,
-                "{\"by\":1,\"act\":{\"kill\":{\"floor\":\"RebootProcess\",\"key\":\"processid\",\"kind\":"
-                "\"RebootAndDelete\",\"tear\":%u,\"value\":\"p%u\"}}}",
+                "{\"by\":1,\"act\":{\"kill\":{\"floor\":\"RebootProcess\",\"key\":\"processid\","
+                "\"kind\":\"RebootAndDelete\",\"tear\":%u,\"value\":\"p%u\"}}}",
                 (unsigned)here->number, (unsigned)process);
         else
             snprintf(line, sizeof line, "{\"by\":0,\"act\":{\"up\":{\"process\":%u}}}",
