@@ -112,7 +112,8 @@ def main():
     for command, rows in tables.items():
         print(f"\n`{command}`:\n")
         print(
-            "| Acts and processes | `faultyard` | beside | times | million instructions | beside | times |"
+            "| Acts and processes | `faultyard` | beside | times |"
+            " million instructions | beside | times |"
         )
         print("|---|---|---|---|---|---|---|")
         print("\n".join(rows))

@@ -1,10 +1,11 @@
 #!/usr/bin/env bash
-# Times the calls of a disk and of teams alone, beside those of other trees of this repository where their paths are given.
+# Times the calls of a disk and of teams alone, beside those of other trees of this repository where
+# their paths are given.
 #
 #     bench/bodies.sh [TREE..]
 #
-# The crate bench/crates/bodies is proved and built in a folder of its own, beside copies of the crates that it calls. The
-# programs of the trees are run in turn.
+# The crate bench/crates/bodies is proved and built in a folder of its own, beside copies of the
+# crates that it calls. The programs of the trees are run in turn.
 set -euo pipefail
 cd "$(dirname "$0")/.."
 folder=$(mktemp -d)

@@ -72,7 +72,8 @@ def compare(words, width, name, cluster, audit, entries):
         if status != 0 or said != f"legal {entries}\n".encode():
             sys.exit(f"{program}, {name}: status {status}, said {said}")
         print(
-            f"{program:<{width}} {name:<10} {entries:>8} {size:>10} {seconds:>8.4f} {entries / seconds:>10.0f} {memory:>9}"
+            f"{program:<{width}} {name:<10} {entries:>8} {size:>10} {seconds:>8.4f}"
+            f" {entries / seconds:>10.0f} {memory:>9}"
         )
 
 
@@ -87,7 +88,8 @@ def main():
     words = words.parse_args()
     width = max(len(program) for program in words.programs)
     print(
-        f"{'program':<{width}} {'audit':<10} {'entries':>8} {'bytes':>10} {'seconds':>8} {'entries/s':>10} {'peak KiB':>9}"
+        f"{'program':<{width}} {'audit':<10} {'entries':>8} {'bytes':>10} {'seconds':>8}"
+        f" {'entries/s':>10} {'peak KiB':>9}"
     )
     with tempfile.TemporaryDirectory() as folder:
         cluster, script, audit = (

@@ -4,8 +4,9 @@
 #
 #     bench/configs.sh [ROUNDS]
 #
-# The crate bench/crates/configs is proved and built in a folder of its own, beside copies of the crates that it calls.
-# For each file it prints its length, the best time of ROUNDS (10 if left out), and what was answered.
+# The crate bench/crates/configs is proved and built in a folder of its own, beside copies of the
+# crates that it calls. For each file it prints its length, the best time of ROUNDS (10 if left
+# out), and what was answered.
 set -euo pipefail
 cd "$(dirname "$0")/.."
 rounds=${1:-10}
@@ -21,11 +22,13 @@ cluster() {
     awk -v n="$1" 'BEGIN {
         print "journal_limit = 1000\npolicies = [\"Across(2,zoneid,One())\"]"
         for (p = 0; p < n; p++)
-            printf "[[process]]\nprocessid = \"p%d\"\nmachineid = \"m%d\"\nzoneid = \"z%d\"\ndcid = \"d0\"\n", p, p, p / 2
+            printf "[[process]]\nprocessid = \"p%d\"\nmachineid = \"m%d\"\nzoneid = \"z%d\"\n" \
+                "dcid = \"d0\"\n", p, p, p / 2
         for (a = 0; a < 4; a++) {
             print "[[actor]]\nrole = \"fault\""
             for (g = 0; g < n; g++)
-                printf "[[actor.grants]]\nkinds = [\"Reboot\", \"Clog\"]\nkey = \"zoneid\"\nvalue = \"z%d\"\n", g
+                printf "[[actor.grants]]\nkinds = [\"Reboot\", \"Clog\"]\n" \
+                    "key = \"zoneid\"\nvalue = \"z%d\"\n", g
         }
         for (p = n - 1; p >= 0; p--)
             printf "[[protect]]\nprocess = \"p%d\"\nkinds = [\"KillInstantly\"]\n", p
@@ -58,10 +61,17 @@ tell 'a = {a={a='
 (printf 'a = "'; filled 'x' || true) | head -c 1048575 > file
 printf '"' >> file
 tell 'one text'
-awk 'BEGIN { for (i = 0; n < 1048000; i++) { line = "k" i " = 1\n"; printf "%s", line; n += length(line) } }' > file
+awk 'BEGIN {
+    for (i = 0; n < 1048000; i++) {
+        line = "k" i " = 1\n"
+        printf "%s", line
+        n += length(line)
+    }
+}' > file
 tell 'keys that differ'
 (
-    printf 'journal_limit = 1\nprocess = [{processid = "p", machineid = "m", zoneid = "z"}]\nactor = [{role = "fault"}]\n'
+    printf 'journal_limit = 1\nprocess = [{processid = "p", machineid = "m", zoneid = "z"}]\n'
+    printf 'actor = [{role = "fault"}]\n'
     printf 'policies = ["'
     filled 'And(' | head -c 1048000 || true
     printf '"]\n'

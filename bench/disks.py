@@ -158,7 +158,10 @@ def etcd(top: Path, seconds: int) -> Rates:
 
 def redis(top: Path, seconds: int) -> Rates:
     port, rates = free_port(), {}
-    rest = f"--port {port} --bind 127.0.0.1 --appendonly yes --appendfsync always --auto-aof-rewrite-percentage 0"
+    rest = (
+        f"--port {port} --bind 127.0.0.1 --appendonly yes --appendfsync always"
+        " --auto-aof-rewrite-percentage 0"
+    )
     with serving(["redis-server", "--save", "", "--dir", top, *rest.split()], port):
         for clients in (1, 16):
             words = [

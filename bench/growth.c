@@ -1,7 +1,8 @@
-/* Preloaded into `faultyard guard` below callgrind, where each entry is one write. Of two entries in turn that refuse a
- * stranger, and the entry behind them, the counts are dumped at the second and the third: so a dump has the instructions of
- * one line. Memory is taken piece by piece and never given back: what a line costs then doesn't depend on where the C
- * library's allocator finds room after all the lines before. */
+/* Preloaded into `faultyard guard` below callgrind, where each entry is one write. Of two entries
+ * in turn that refuse a stranger, and the entry behind them, the counts are dumped at the second
+ * and the third: so a dump has the instructions of one line. Memory is taken piece by piece and
+ * never given back: what a line costs then doesn't depend on where the C library's allocator finds
+ * room after all the lines before. */
 #define _GNU_SOURCE
 #include <stddef.h>
 #include <stdint.h>

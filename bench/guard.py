@@ -29,7 +29,8 @@ def config(processes):
     kinds = '["RebootProcess", "Reboot", "RebootAndDelete", "KillInstantly"]'
     return (
         f'journal_limit = 1048576\npolicies = ["Across(2,zoneid,One())"]\nprocess = [\n{process}]\n'
-        f'actor = [\n  {{role = "storage"}},\n  {{role = "fault", grants = [{{kinds = {kinds}}}]}},\n]\n'
+        'actor = [\n  {role = "storage"},\n'
+        f'  {{role = "fault", grants = [{{kinds = {kinds}}}]}},\n]\n'
     )
 
 
@@ -88,10 +89,8 @@ def row(name, talks):
     trips = best[1]
     parts = [trips[len(trips) // 2], trips[len(trips) * 99 // 100], trips[len(trips) * 999 // 1000]]
     times = " ".join(f"{part * 1e6:8.1f}" for part in parts)
-    print(
-        f"{name:36} {best[0]:12,.0f} {min(told[0] for told in talks):12,.0f}   {times} {best[2]:10,} KiB",
-        flush=True,
-    )
+    worst = min(told[0] for told in talks)
+    print(f"{name:36} {best[0]:12,.0f} {worst:12,.0f}   {times} {best[2]:10,} KiB", flush=True)
 
 
 def main():
@@ -101,7 +100,8 @@ def main():
     parser.add_argument("programs", nargs="+", metavar="PROGRAM")
     words = parser.parse_args()
     print(
-        f"{'':36} {'a second':>12} {'worst':>12}   {'median':>8} {'99 %':>8} {'99.9 %':>8} {'memory':>14}"
+        f"{'':36} {'a second':>12} {'worst':>12}   {'median':>8} {'99 %':>8} {'99.9 %':>8}"
+        f" {'memory':>14}"
     )
     with tempfile.TemporaryDirectory(prefix="bench-guard-") as folder:
         for processes in (6, 100, 1000):

@@ -117,7 +117,8 @@ def main():
     words = words.parse_args()
     width = max(len(program) for program in words.programs)
     print(
-        f"{'program':<{width}} {'counts':>7} {'processes':>9} {'asks':>7} {'yes':>5} {'gone':>6} {'seconds':>8} {'asks/s':>9} {'peak KiB':>9}"
+        f"{'program':<{width}} {'counts':>7} {'processes':>9} {'asks':>7} {'yes':>5} {'gone':>6}"
+        f" {'seconds':>8} {'asks/s':>9} {'peak KiB':>9}"
     )
     for counts, policies_of in (("small", lambda _: POLICIES), ("large", proportional)):
         for count in (6, 100, 1000):
@@ -137,11 +138,13 @@ def compare(words, width, counts, count, data, asks):
         answers = written.split(b"\n")[:-1]
         if status != 0 or len(answers) != asks or written != rounds[0][0][2]:
             sys.exit(
-                f"{program}, {count} processes: status {status}, {len(answers)} answers to {asks} asks, or other ones than {words.programs[0]}"
+                f"{program}, {count} processes: status {status}, {len(answers)} answers to {asks}"
+                f" asks, or other ones than {words.programs[0]}"
             )
         yes, gone = answers.count(b"yes"), answers.count(b"gone")
         print(
-            f"{program:<{width}} {counts:>7} {count:>9} {asks:>7} {yes:>5} {gone:>6} {seconds:>8.4f} {asks / seconds:>9.0f} {memory:>9}"
+            f"{program:<{width}} {counts:>7} {count:>9} {asks:>7} {yes:>5} {gone:>6}"
+            f" {seconds:>8.4f} {asks / seconds:>9.0f} {memory:>9}"
         )
 
 

@@ -1,5 +1,6 @@
-//! `faultyard judge` once more in plain Rust, for comparison: the same input and answers, written as one would without
-//! proofs, with std's hash map. It stops at a faulty line with one word for all faults.
+//! `faultyard judge` once more in plain Rust, for comparison: the same input and answers, written
+//! as one would without proofs, with std's hash map. It stops at a faulty line with one word for
+//! all faults.
 use std::collections::HashMap;
 use std::io::{Read, Write};
 use std::process::ExitCode;

@@ -1,7 +1,8 @@
-/* Times kills and judgements by the C library: kills CONFIG KILLS TARGETS KEY. The targets are p0, p1 and so on where KEY is
- * processid, and zones z0, z1 and so on where it is zoneid. The first kill strikes p0, and two machines lost are too many. So
- * each kill of the rest is barred where its floor is its kind, and lessened to a reboot where its floor is a reboot; a reboot
- * strikes. The best of ROUNDS rounds is told, in nanoseconds a call. */
+/* Times kills and judgements by the C library: kills CONFIG KILLS TARGETS KEY. The targets are p0,
+ * p1 and so on where KEY is processid, and zones z0, z1 and so on where it is zoneid. The first
+ * kill strikes p0, and two machines lost are too many. So each kill of the rest is barred where its
+ * floor is its kind, and lessened to a reboot where its floor is a reboot; a reboot strikes. The
+ * best of ROUNDS rounds is told, in nanoseconds a call. */
 #define _POSIX_C_SOURCE 199309L
 #include "faultyard.h"
 #include <stdbool.h>
@@ -94,10 +95,10 @@ int main(int count, char **words)
         double best[WAYS] = {1e9, 1e9, 1e9, 1e9, 1e9};
         for (long it = 0; it < targets; it++) {
             snprintf(names[it], sizeof names[it], "%c%ld", is_zone ? 'z' : 'p', it);
-            snprintf(
-                lines[it], sizeof lines[it],
-                "{\"by\":1,\"act\":{\"kill\":{\"floor\":\"%s\",\"key\":\"%s\",\"kind\":\"%s\",\"tear\":0,\"value\":\"%.23s\"}}}",
-                cases[at].floor_word, words[4], cases[at].kind_word, names[it]);
+            snprintf(lines[it], sizeof lines[it],
+                     "{\"by\":1,\"act\":{\"kill\":{\"floor\":\"%s\",\"key\":\"%s\",\"kind\":\"%s\","
+                     "\"tear\":0,\"value\":\"%.23s\"}}}",
+                     cases[at].floor_word, words[4], cases[at].kind_word, names[it]);
         }
         for (int round = 0; round < WAYS * ROUNDS; round++) {
             way by = (way)(round % WAYS);

@@ -1,7 +1,8 @@
 #!/usr/bin/env bash
-# Times judgements and kills by the C library, where the kill strikes, is lessened and is barred. They are of a process, by its
-# name and by its number, in a cluster of 6, 100 and 1,000; and of a zone of eight, by its name, in one of 1,000. Where BESIDE is
-# the path of another program of this command line that tells with FY_TIMES=1 what its decisions took, the same kills by that.
+# Times judgements and kills by the C library, where the kill strikes, is lessened and is barred.
+# They are of a process, by its name and by its number, in a cluster of 6, 100 and 1,000; and of a
+# zone of eight, by its name, in one of 1,000. Where BESIDE is the path of another program of this
+# command line that tells with FY_TIMES=1 what its decisions took, the same kills by that.
 #
 #     bench/kills.sh [BESIDE]
 set -euo pipefail
@@ -32,10 +33,13 @@ def line(kind, floor, key, target):
 processes, a_zone, targets, kills = map(int, (sys.argv[at] for at in (1, 2, 4, 5)))
 key, work = sys.argv[3], sys.argv[6]
 with open(f"{work}/cluster.toml", "w") as file:
-    print('journal_limit = 1000000\npolicies = ["Across(2,machineid,One())"]\nprocess = [', file=file)
+    print('journal_limit = 1000000\npolicies = ["Across(2,machineid,One())"]', file=file)
+    print("process = [", file=file)
     for p in range(processes):
-        print(f'  {{processid = "p{p}", machineid = "m{p}", zoneid = "z{p // a_zone}"}},', file=file)
-    print(f']\nactor = [\n  {{role = "storage"}},\n  {{role = "fault", grants = [{{kinds = {KINDS}}}]}},\n]', file=file)
+        zone = f"z{p // a_zone}"
+        print(f'  {{processid = "p{p}", machineid = "m{p}", zoneid = "{zone}"}},', file=file)
+    print(']\nactor = [\n  {role = "storage"},', file=file)
+    print(f'  {{role = "fault", grants = [{{kinds = {KINDS}}}]}},\n]', file=file)
 for case, (kind, floor) in CASES.items():
     with open(f"{work}/{case}", "w") as file:
         print(line("KillInstantly", "KillInstantly", "processid", 0), file=file)
@@ -45,7 +49,8 @@ EOF
     "$work/kills" "$work/cluster.toml" "$kills" "$targets" "$key"
     if [ $# -gt 0 ]; then
         for case in strikes lessened barred; do
-            FY_TIMES=1 "$1" run "$work/cluster.toml" < "$work/$case" 2>&1 > /dev/null | sed "s|^|  beside, $case, $kills kills: |"
+            FY_TIMES=1 "$1" run "$work/cluster.toml" < "$work/$case" 2>&1 > /dev/null \
+                | sed "s|^|  beside, $case, $kills kills: |"
         done
     fi
 done << 'EOF'

@@ -141,7 +141,8 @@ def compare(words, width, name, cluster, script):
                 f"{program}, {name}: status {status}, or another audit than {words.programs[0]}"
             )
         print(
-            f"{program:<{width}} {name:<16} {lines:>7} {seconds:>8.4f} {lines / seconds:>9.0f} {memory:>9} {memory * 1024 / lines:>9.0f}"
+            f"{program:<{width}} {name:<16} {lines:>7} {seconds:>8.4f} {lines / seconds:>9.0f}"
+            f" {memory:>9} {memory * 1024 / lines:>9.0f}"
         )
 
 
@@ -156,7 +157,8 @@ def main():
     words = words.parse_args()
     width = max(len(program) for program in words.programs)
     print(
-        f"{'program':<{width}} {'script':<16} {'acts':>7} {'seconds':>8} {'acts/s':>9} {'peak KiB':>9} {'bytes/act':>9}"
+        f"{'program':<{width}} {'script':<16} {'acts':>7} {'seconds':>8} {'acts/s':>9}"
+        f" {'peak KiB':>9} {'bytes/act':>9}"
     )
     if words.inputs:
         compare(words, width, "given", *words.inputs)

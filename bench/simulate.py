@@ -43,7 +43,8 @@ def compare(words, width, count, cluster):
     for program, runs in zip(words.programs, zip(*rounds)):
         if wanted[:2] != (0, words.acts) or any(told != wanted for _, told in runs):
             sys.exit(
-                f"{program}, {count}: a run failed, or wrote another audit: {wanted[:3]}, {[told[:3] for _, told in runs]}"
+                f"{program}, {count}: a run failed, or wrote another audit: {wanted[:3]},"
+                f" {[told[:3] for _, told in runs]}"
             )
         seconds, size = min(runs)[0], wanted[2]
         most, less = (
@@ -51,7 +52,8 @@ def compare(words, width, count, cluster):
         )
         rate = words.acts / seconds
         print(
-            f"{program:<{width}} {count:>9} {words.acts:>7} {size:>9} {seconds:>8.4f} {rate:>8.0f} {most:>9} {less:>9}"
+            f"{program:<{width}} {count:>9} {words.acts:>7} {size:>9} {seconds:>8.4f}"
+            f" {rate:>8.0f} {most:>9} {less:>9}"
         )
 
 
@@ -65,7 +67,10 @@ def main():
     words.add_argument("programs", nargs="+")
     words = words.parse_args()
     width = max(len(program) for program in words.programs)
-    head = f"{'processes':>9} {'acts':>7} {'bytes':>9} {'seconds':>8} {'acts/s':>8} {'peak KiB':>9} {'of a 10th':>9}"
+    head = (
+        f"{'processes':>9} {'acts':>7} {'bytes':>9} {'seconds':>8} {'acts/s':>8} {'peak KiB':>9}"
+        f" {'of a 10th':>9}"
+    )
     print(f"{'program':<{width}} {head}")
     with tempfile.TemporaryDirectory() as folder:
         cluster = f"{folder}/cluster.toml"

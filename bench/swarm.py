@@ -72,7 +72,8 @@ def compare(words, width, name, cluster, peak):
         acts = sum(run[2] for run in runs) / len(runs)
         memory = peak([os.path.abspath(program), "swarm", cluster, "--seed", "0"], os.devnull)
         print(
-            f"{program:<{width}} {name:<16} {acts:>7.0f} {seconds:>8.4f} {least:>8.4f} {acts / seconds:>9.0f} {memory:>9}"
+            f"{program:<{width}} {name:<16} {acts:>7.0f} {seconds:>8.4f} {least:>8.4f}"
+            f" {acts / seconds:>9.0f} {memory:>9}"
         )
 
 
@@ -85,7 +86,8 @@ def main():
     peak = of_run().peak
     width = max(len(program) for program in words.programs)
     print(
-        f"{'program':<{width}} {'cluster':<16} {'acts':>7} {'seconds':>8} {'least':>8} {'acts/s':>9} {'peak KiB':>9}"
+        f"{'program':<{width}} {'cluster':<16} {'acts':>7} {'seconds':>8} {'least':>8}"
+        f" {'acts/s':>9} {'peak KiB':>9}"
     )
     if words.inputs:
         compare(words, width, "given", words.inputs, peak)

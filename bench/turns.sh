@@ -3,9 +3,9 @@
 #
 #     bench/turns.sh [ACTS]
 #
-# The crate bench/crates/turns is proved and built in a folder of its own, beside copies of the crates that it calls. The
-# driver stores on six processes, four payloads once and a thousand once, and takes 1,000 turns and then ACTS (100,000 if
-# left out).
+# The crate bench/crates/turns is proved and built in a folder of its own, beside copies of the
+# crates that it calls. The driver stores on six processes, four payloads once and a thousand once,
+# and takes 1,000 turns and then ACTS (100,000 if left out).
 set -euo pipefail
 cd "$(dirname "$0")/.."
 acts=${1:-100000}
@@ -17,7 +17,11 @@ cd "$folder/crates/turns"
 # A cluster of so many processes, two to a zone.
 cluster() {
     printf 'journal_limit = 1048576\npolicies = ["Across(2,zoneid,One())"]\nprocess = [\n'
-    awk -v count="$1" 'BEGIN { for (p = 0; p < count; p++) printf "  {processid = \"p%d\", machineid = \"m%d\", zoneid = \"z%d\"},\n", p, p, int(p / 2) }'
+    awk -v count="$1" 'BEGIN {
+        for (p = 0; p < count; p++)
+            printf "  {processid = \"p%d\", machineid = \"m%d\", zoneid = \"z%d\"},\n", \
+                p, p, int(p / 2)
+    }'
     printf ']\nactor = [{role = "storage"}]\n'
 }
 
@@ -27,7 +31,8 @@ for processes in 6 100 1000; do
     cluster "$processes" > file
     for payloads in 4 1000; do
         for count in 1000 "$acts"; do
-            echo "$processes processes, $payloads payloads: $(out/turns 6 "$payloads" "$count" 5 < file)"
+            took=$(out/turns 6 "$payloads" "$count" 5 < file)
+            echo "$processes processes, $payloads payloads: $took"
         done
     done
 done

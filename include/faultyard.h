@@ -7,7 +7,8 @@
  *     uint32_t struck, rule;
  *     uint64_t named;
  *     if (fy_guard_open(config, strlen(config), &guard) != FY_DONE) ...
- *     fy_guard_kill(&guard, 1, FY_ZONE, "z0", FY_KILL_INSTANTLY, FY_REBOOT, 0, &struck, &rule, &named);
+ *     fy_guard_kill(&guard, 1, FY_ZONE, "z0", FY_KILL_INSTANTLY, FY_REBOOT, 0, &struck, &rule,
+ *                   &named);
  *     if (struck == FY_KILL_INSTANTLY) ...
  *     fy_guard_close(&guard);
  *
@@ -17,21 +18,21 @@
  * Every call answers a fy_status. But for FY_DONE, FY_REFUSED and FY_UNWRITTEN the guard is as it
  * was; what pointers for answers point to may be written all the same, as the call says.
  *
- * A guard may be moved to another thread, and one call at a time is made with it: threads that share
- * one take turns, by a mutex. Guards of different threads have nothing in common. Calls that take a
- * `const fy_guard *` write neither the struct nor what it points to, so they may be made at once
- * while no other call is.
+ * A guard may be moved to another thread, and one call at a time is made with it: threads that
+ * share one take turns, by a mutex. Guards of different threads have nothing in common. Calls that
+ * take a `const fy_guard *` write neither the struct nor what it points to, so they may be made at
+ * once while no other call is.
  *
- * The struct may be moved in memory. Of a guard there is one copy that is used: a copy of the struct
- * is no second guard, which fy_guard_try_copy opens.
+ * The struct may be moved in memory. Of a guard there is one copy that is used: a copy of the
+ * struct is no second guard, which fy_guard_try_copy opens.
  *
- * What no call can notice is undefined: a second copy of a struct that is used, or closed, beside the
- * first or after it; fy_close twice (fy_guard_close closes the struct, so a second call does nothing);
- * a struct that was never opened and isn't all zeros; two calls at once, but for those above; a
- * buffer for an answer that overlaps the struct, a text of the call or another answer; a text without
- * its zero, or a length beyond its buffer; a call from a signal handler, or in a child that a process
- * with threads forked. In the child of a process without threads a guard is a second one, whose
- * journal goes its own way. All of it goes for a check too.
+ * What no call can notice is undefined: a second copy of a struct that is used, or closed, beside
+ * the first or after it; fy_close twice (fy_guard_close closes the struct, so a second call does
+ * nothing); a struct that was never opened and isn't all zeros; two calls at once, but for those
+ * above; a buffer for an answer that overlaps the struct, a text of the call or another answer; a
+ * text without its zero, or a length beyond its buffer; a call from a signal handler, or in a child
+ * that a process with threads forked. In the child of a process without threads a guard is a second
+ * one, whose journal goes its own way. All of it goes for a check too.
  */
 #ifndef FAULTYARD_H
 #define FAULTYARD_H
@@ -65,9 +66,10 @@ typedef enum fy_status {
                                written, as it has over FY_MOST_REPLY bytes more than the line that
                                asked for it: fy_guard_audit reads it. No test has met it. */
     FY_NO_ENTRY = 6,        /* The journal has no entry at this place. */
-    FY_ARGUMENT = 7,        /* A number for a key, a kind or a floor is that of none, or a bit of a set of
-                               kinds is; members don't rise, or are too many; a payload is too long; there
-                               is no such process to kill. Each call says which it means. */
+    FY_ARGUMENT = 7,        /* A number for a key, a kind or a floor is that of none, or a bit of a
+                               set of kinds is; members don't rise, or are too many; a payload is
+                               too long; there is no such process to kill. Each call says which it
+                               means. */
     FY_NAME = 8,            /* The value of the target is no name: 1 to 32 of A-Z a-z 0-9 _ -, the
                                first not -. */
     FY_FLOOR = 9,           /* The floor of the kill is above its kind. */
@@ -75,14 +77,14 @@ typedef enum fy_status {
     FY_LINE_SYNTAX = 11,    /* The line is no command of a script, or no entry of an audit. */
     FY_CONFIG_TOO_LONG = 12, /* The cluster file has more than 1,048,576 bytes. */
     FY_CONFIG_TOML = 13,    /* The cluster file is no TOML document in UTF-8. */
-    FY_CONFIG_FIELD = 14,   /* A key of it is missing, unknown or of another type, or a word is none of
-                               those that may stand there. */
+    FY_CONFIG_FIELD = 14,   /* A key of it is missing, unknown or of another type, or a word is none
+                               of those that may stand there. */
     FY_CONFIG_LIMIT = 15,   /* A number or a length of it is outside its range. */
     FY_CONFIG_NAME = 16,    /* A text of it is no name, or names what is taken or isn't there. */
     FY_CONFIG_POLICY = 17,  /* A text of it is no policy. */
     FY_CONFIG_UNMET = 18,   /* All its processes together don't satisfy one of its policies. */
-    FY_CLOSED = 19,         /* The guard is closed, or a pointer is null. Only the inline calls of this
-                               header answer it: the library itself asks for an open guard. */
+    FY_CLOSED = 19,         /* The guard is closed, or a pointer is null. Only the inline calls of
+                               this header answer it: the library itself asks for an open guard. */
     FY_NO_HEADER = 20,      /* The first line of the audit is no header of a version. */
     FY_AUDIT_TOO_LONG = 21, /* The lines of the audit have more than 268,435,456 bytes together. */
     FY_REFUTED = 22,        /* An entry of the audit isn't what the rules give. */
@@ -172,8 +174,8 @@ typedef enum fy_refusal {
 /* How many bytes more than the line a buffer for fy_guard_act has room for. */
 #define FY_MOST_REPLY 128
 
-/* The most members of a team, and the most bytes of a payload that fy_guard_begin takes: the line of
- * its entry would else be too long for an audit. One of more than 256 bytes is refused. */
+/* The most members of a team, and the most bytes of a payload that fy_guard_begin takes: the line
+ * of its entry would else be too long for an audit. One of more than 256 bytes is refused. */
 #define FY_MOST_MEMBERS 1024
 #define FY_MOST_PAYLOAD 32000
 
@@ -188,7 +190,7 @@ typedef enum fy_refusal {
 /* The state of a process: the sum of those that hold. */
 #define FY_STATE_UP 1u        /* It runs. */
 #define FY_STATE_CLOGGED 2u   /* Its messages are held back. */
-#define FY_STATE_DESTROYED 4u /* It was struck by a kind that empties its disk, and not healed since. */
+#define FY_STATE_DESTROYED 4u /* Struck by a kind that empties its disk, and not healed since. */
 #define FY_STATE_GONE 8u      /* It was killed for good. */
 
 /* The time, and what there is to do next. */
@@ -259,9 +261,9 @@ typedef struct fy_order {
 /* No plan has more orders. */
 #define FY_MOST_ORDERS 2048
 
-/* An audit that is being checked. Only the calls below write it; all zeros, it is closed. The struct
- * may be moved in memory. Of a check there is one copy that is used. It may be moved to another
- * thread, and one call at a time is made with it. */
+/* An audit that is being checked. Only the calls below write it; all zeros, it is closed. The
+ * struct may be moved in memory. Of a check there is one copy that is used. It may be moved to
+ * another thread, and one call at a time is made with it. */
 typedef struct fy_check {
     void *at;
 } fy_check;
@@ -273,51 +275,56 @@ typedef struct fy_check {
  *
  * Nothing in them asks whether a guard is open or a pointer null: whoever calls them sees to it.
  * Pointers are never null, also where a length is 0. fy_open and fy_open_after take a closed guard,
- * all zeros, and so does fy_try_copy as its `other`. The guard that fy_close took is not used again.
- * A `set` has FY_SET_WORDS words. What each answers stands at the call of the same name below. The
- * same goes for a check, fy_begin_check and fy_end_check; their calls below are fy_check_begin,
- * fy_check_line, fy_check_finding, fy_check_end.
+ * all zeros, and so does fy_try_copy as its `other`. The guard that fy_close took is not used
+ * again. A `set` has FY_SET_WORDS words. What each answers stands at the call of the same name
+ * below. The same goes for a check, fy_begin_check and fy_end_check; their calls below are
+ * fy_check_begin, fy_check_line, fy_check_finding, fy_check_end.
  */
 uint32_t fy_version(void);
-uint32_t fy_config_fault(const uint8_t *config, size_t config_length, uint32_t *part, uint64_t *place);
+uint32_t fy_config_fault(const uint8_t *config, size_t config_length, uint32_t *part,
+                         uint64_t *place);
 uint32_t fy_open(const uint8_t *config, size_t config_length, fy_guard *guard);
 uint32_t fy_open_after(const uint8_t *config, size_t config_length, const uint8_t *audit,
                        size_t audit_length, fy_guard *guard, uint32_t *first_bad);
 void fy_close(fy_guard guard);
 uint32_t fy_reset(fy_guard *guard);
 uint32_t fy_try_copy(const fy_guard *guard, fy_guard *other);
-uint32_t fy_kill(fy_guard *guard, uint32_t actor, uint32_t key, const uint8_t *value, size_t value_length,
-                 uint32_t kind, uint32_t floor, uint64_t tear, uint32_t *struck, uint32_t *rule,
-                 uint64_t *named);
+uint32_t fy_kill(fy_guard *guard, uint32_t actor, uint32_t key, const uint8_t *value,
+                 size_t value_length, uint32_t kind, uint32_t floor, uint64_t tear,
+                 uint32_t *struck, uint32_t *rule, uint64_t *named);
 uint32_t fy_judge(const fy_guard *guard, uint32_t actor, uint32_t key, const uint8_t *value,
-                  size_t value_length, uint32_t kind, uint32_t floor, uint32_t *struck, uint32_t *rule,
-                  uint64_t *named);
+                  size_t value_length, uint32_t kind, uint32_t floor, uint32_t *struck,
+                  uint32_t *rule, uint64_t *named);
 uint32_t fy_kill_process(fy_guard *guard, uint32_t actor, uint32_t process, uint32_t kind,
                          uint32_t floor, uint64_t tear, uint32_t *struck, uint32_t *rule,
                          uint64_t *named);
 uint32_t fy_judge_process(const fy_guard *guard, uint32_t actor, uint32_t process, uint32_t kind,
                           uint32_t floor, uint32_t *struck, uint32_t *rule, uint64_t *named);
-uint32_t fy_killable(const fy_guard *guard, uint32_t actor, uint8_t *kinds, size_t room, size_t *told);
+uint32_t fy_killable(const fy_guard *guard, uint32_t actor, uint8_t *kinds, size_t room,
+                     size_t *told);
 uint32_t fy_up(fy_guard *guard, uint32_t actor, uint32_t process, uint32_t *refusal);
 uint32_t fy_heal(fy_guard *guard, uint32_t actor, uint32_t process, uint32_t *refusal);
-uint32_t fy_clog(fy_guard *guard, uint32_t actor, uint32_t key, const uint8_t *value, size_t value_length,
-                 uint64_t ticks, fy_reply *reply);
+uint32_t fy_clog(fy_guard *guard, uint32_t actor, uint32_t key, const uint8_t *value,
+                 size_t value_length, uint64_t ticks, fy_reply *reply);
 uint32_t fy_unclog(fy_guard *guard, uint32_t actor, uint32_t key, const uint8_t *value,
                    size_t value_length, fy_reply *reply);
-uint32_t fy_form(fy_guard *guard, uint32_t actor, const uint32_t *members, size_t count, uint32_t policy,
-                 fy_reply *reply);
+uint32_t fy_form(fy_guard *guard, uint32_t actor, const uint32_t *members, size_t count,
+                 uint32_t policy, fy_reply *reply);
 uint32_t fy_begin(fy_guard *guard, uint32_t actor, uint32_t team, const uint8_t *payload,
                   size_t payload_length, fy_reply *reply);
 uint32_t fy_deliver(fy_guard *guard, uint32_t actor, uint64_t message, fy_reply *reply);
 uint32_t fy_lose(fy_guard *guard, uint32_t actor, uint64_t message, fy_reply *reply);
-uint32_t fy_resend(fy_guard *guard, uint32_t actor, uint32_t record, uint32_t process, fy_reply *reply);
+uint32_t fy_resend(fy_guard *guard, uint32_t actor, uint32_t record, uint32_t process,
+                   fy_reply *reply);
 uint32_t fy_sync(fy_guard *guard, uint32_t actor, uint32_t process, fy_reply *reply);
 uint32_t fy_tick(fy_guard *guard, uint32_t actor, uint64_t ticks, fy_reply *reply);
 uint32_t fy_give(fy_guard *guard, uint32_t actor, uint32_t to, uint32_t kinds, uint32_t key,
                  const uint8_t *value, size_t value_length, fy_reply *reply);
 uint32_t fy_take(fy_guard *guard, uint32_t actor, uint32_t from, uint32_t index, fy_reply *reply);
-uint32_t fy_protect(fy_guard *guard, uint32_t actor, uint32_t process, uint32_t kinds, fy_reply *reply);
-uint32_t fy_unprotect(fy_guard *guard, uint32_t actor, uint32_t process, uint32_t kinds, fy_reply *reply);
+uint32_t fy_protect(fy_guard *guard, uint32_t actor, uint32_t process, uint32_t kinds,
+                    fy_reply *reply);
+uint32_t fy_unprotect(fy_guard *guard, uint32_t actor, uint32_t process, uint32_t kinds,
+                      fy_reply *reply);
 uint32_t fy_copy(fy_guard *guard, uint32_t actor, uint32_t from, uint32_t record, uint32_t to,
                  fy_reply *reply);
 uint32_t fy_replace(fy_guard *guard, uint32_t actor, uint32_t team, uint32_t out, uint32_t into,
@@ -340,7 +347,8 @@ uint32_t fy_keeper(const fy_guard *guard, uint32_t record);
 void fy_sight(const fy_guard *guard, fy_seen *seen);
 uint32_t fy_bears(const fy_guard *guard, fy_borne *borne);
 size_t fy_journal_len(const fy_guard *guard);
-uint32_t fy_audit(const fy_guard *guard, size_t at, uint8_t *buffer, size_t buffer_length, size_t *told);
+uint32_t fy_audit(const fy_guard *guard, size_t at, uint8_t *buffer, size_t buffer_length,
+                  size_t *told);
 uint32_t fy_words(uint64_t seed, uint64_t stream, uint32_t *words, size_t count);
 uint32_t fy_swizzle_plan(const fy_guard *guard, uint64_t seed, uint64_t stream, uint64_t ticks,
                          fy_order *orders, size_t room, size_t *told);
@@ -351,7 +359,8 @@ uint32_t fy_plan_orders(const fy_guard *guard, uint32_t plan, uint64_t seed, uin
                         fy_order *orders, size_t count);
 uint32_t fy_begin_check(const uint8_t *config, size_t config_length, fy_check *check);
 void fy_end_check(fy_check check);
-uint32_t fy_read_line(fy_check *check, const uint8_t *line, size_t line_length, uint32_t *first_bad);
+uint32_t fy_read_line(fy_check *check, const uint8_t *line, size_t line_length,
+                      uint32_t *first_bad);
 uint32_t fy_finding(const fy_check *check, uint32_t *count, uint32_t *first_bad);
 
 /* ---- The calls of a C program */
@@ -373,19 +382,20 @@ static inline fy_status fy_guard_open(const char *config, size_t length, fy_guar
 
 /* Opens a guard that goes on where an audit ends: its journal is that of the audit, whose acts are
  * made once more, and the next entry has the next number. So the lines that fy_guard_audit writes
- * from then on make one audit with it. The audit is its whole text, FY_AUDIT_HEADER and the lines of
- * entries. What the struct was is written over; where the guard isn't opened, it is closed.
+ * from then on make one audit with it. The audit is its whole text, FY_AUDIT_HEADER and the lines
+ * of entries. What the struct was is written over; where the guard isn't opened, it is closed.
  *
  * `*first_bad` is the place of the entry, from 0, that isn't what the rules give, after FY_REFUTED,
- * and else FY_NO_BAD_ENTRY. Half a last line, as a crash leaves one, is FY_LINE_SYNTAX: cut the text
- * behind its last line feed.
+ * and else FY_NO_BAD_ENTRY. Half a last line, as a crash leaves one, is FY_LINE_SYNTAX: cut the
+ * text behind its last line feed.
  *
- * In this order: FY_CLOSED where a pointer is null; the statuses of fy_guard_open for a text that is
- * no cluster file; FY_AUDIT_TOO_LONG; FY_NO_HEADER, also for an audit of the first version; then of
- * the first line that is at fault FY_LINE_TOO_LONG, FY_LINE_SYNTAX or FY_REFUTED. FY_NO_MEMORY may
- * take the place of any but FY_CLOSED, FY_AUDIT_TOO_LONG and FY_NO_HEADER. */
+ * In this order: FY_CLOSED where a pointer is null; the statuses of fy_guard_open for a text that
+ * is no cluster file; FY_AUDIT_TOO_LONG; FY_NO_HEADER, also for an audit of the first version; then
+ * of the first line that is at fault FY_LINE_TOO_LONG, FY_LINE_SYNTAX or FY_REFUTED. FY_NO_MEMORY
+ * may take the place of any but FY_CLOSED, FY_AUDIT_TOO_LONG and FY_NO_HEADER. */
 static inline fy_status fy_guard_open_after(const char *config, size_t length, const char *audit,
-                                            size_t audit_length, fy_guard *guard, uint32_t *first_bad)
+                                            size_t audit_length, fy_guard *guard,
+                                            uint32_t *first_bad)
 {
     if (guard == NULL)
         return FY_CLOSED;
@@ -397,10 +407,10 @@ static inline fy_status fy_guard_open_after(const char *config, size_t length, c
 }
 
 /* The first fault of a text that is no cluster file. The status is the one with which fy_guard_open
- * refuses it; FY_DONE where it has no fault. `*part` is the fy_part that the fault is in. `*place` is
- * its place there, from 0: that of the process, actor or protection after FY_CONFIG_NAME, that of the
- * policy after FY_CONFIG_POLICY and FY_CONFIG_UNMET, and else 0. Both are 0 after FY_DONE and
- * FY_NO_MEMORY.
+ * refuses it; FY_DONE where it has no fault. `*part` is the fy_part that the fault is in. `*place`
+ * is its place there, from 0: that of the process, actor or protection after FY_CONFIG_NAME, that
+ * of the policy after FY_CONFIG_POLICY and FY_CONFIG_UNMET, and else 0. Both are 0 after FY_DONE
+ * and FY_NO_MEMORY.
  *
  * FY_CLOSED where a pointer is null, else FY_DONE, FY_NO_MEMORY, or FY_CONFIG_TOO_LONG to
  * FY_CONFIG_UNMET. */
@@ -431,8 +441,8 @@ static inline int fy_guard_is_open(const fy_guard *guard)
 /* Puts a guard back to where nothing happened yet, without its cluster file being read again.
  *
  * Before it frees anything it asks for the memory of a new guard, so after FY_NO_MEMORY nothing
- * changed. How much that is doesn't depend on the journal. Where it can't be had, close the guard and
- * open it again: closing frees first.
+ * changed. How much that is doesn't depend on the journal. Where it can't be had, close the guard
+ * and open it again: closing frees first.
  *
  * In this order: FY_CLOSED, FY_NO_MEMORY. */
 static inline fy_status fy_guard_reset(fy_guard *guard)
@@ -442,9 +452,9 @@ static inline fy_status fy_guard_reset(fy_guard *guard)
     return (fy_status)fy_reset(guard);
 }
 
-/* Opens a second guard with the journal of an open one, to look ahead: what is done with one changes
- * nothing of the other, and each is closed. The state is copied, and no act of the journal is made
- * again. What `*other` was is written over; where it isn't opened, it is closed.
+/* Opens a second guard with the journal of an open one, to look ahead: what is done with one
+ * changes nothing of the other, and each is closed. The state is copied, and no act of the journal
+ * is made again. What `*other` was is written over; where it isn't opened, it is closed.
  *
  * FY_CLOSED where the guard isn't open, or a pointer is null; and where both pointers are the same,
  * whose guard stays open. FY_NO_MEMORY. */
@@ -465,30 +475,32 @@ static inline fy_status fy_guard_try_copy(const fy_guard *guard, fy_guard *other
  *
  * `*struck` is the fy_kind that struck: do that to each process of the target that isn't gone, the
  * set of which fy_guard_targets writes before the kill.
- * `*rule` is the fy_rule that bars the kind that was ordered, and `*named` the number of the process
- * (FY_NO_GRANT, FY_PROTECTED) or of the policy (FY_TOO_MANY_DESTROYED, FY_TOO_FEW_LEFT) that it
- * names. All three are 0 after any status but FY_DONE and FY_CLOSED.
+ * `*rule` is the fy_rule that bars the kind that was ordered, and `*named` the number of the
+ * process (FY_NO_GRANT, FY_PROTECTED) or of the policy (FY_TOO_MANY_DESTROYED, FY_TOO_FEW_LEFT)
+ * that it names. All three are 0 after any status but FY_DONE and FY_CLOSED.
  *
- * A process that died without an order is told as a kill of it, with the floor FY_REBOOT_PROCESS: by
- * FY_REBOOT where its data is there, by FY_REBOOT_AND_DELETE where its data is gone. Where that is
- * answered with less than FY_REBOOT_AND_DELETE, more was destroyed than the policies bear, and the
- * guard doesn't know it: what it promises of records ends there. Open a new guard once every process
- * has every record. A process that others kill, or whose data others remove, is such a death.
+ * A process that died without an order is told as a kill of it, with the floor FY_REBOOT_PROCESS:
+ * by FY_REBOOT where its data is there, by FY_REBOOT_AND_DELETE where its data is gone. Where that
+ * is answered with less than FY_REBOOT_AND_DELETE, more was destroyed than the policies bear, and
+ * the guard doesn't know it: what it promises of records ends there. Open a new guard once every
+ * process has every record. A process that others kill, or whose data others remove, is such a
+ * death.
  *
  * In this order: FY_CLOSED; FY_ARGUMENT where the key, the kind or the floor is none; FY_NAME;
  * FY_FLOOR; FY_JOURNAL_FULL; FY_NO_MEMORY. FY_REFUSED where there is no actor with this number. */
-static inline fy_status fy_guard_kill(fy_guard *guard, uint32_t actor, fy_key key, const char *value,
-                                      fy_kind kind, fy_kind floor, uint64_t tear, uint32_t *struck,
-                                      uint32_t *rule, uint64_t *named)
+static inline fy_status fy_guard_kill(fy_guard *guard, uint32_t actor, fy_key key,
+                                      const char *value, fy_kind kind, fy_kind floor, uint64_t tear,
+                                      uint32_t *struck, uint32_t *rule, uint64_t *named)
 {
-    if (!fy_guard_is_open(guard) || value == NULL || struck == NULL || rule == NULL || named == NULL)
+    if (!fy_guard_is_open(guard) || value == NULL || struck == NULL || rule == NULL ||
+        named == NULL)
         return FY_CLOSED;
     return (fy_status)fy_kill(guard, actor, (uint32_t)key, (const uint8_t *)value, strlen(value),
                               (uint32_t)kind, (uint32_t)floor, tear, struck, rule, named);
 }
 
-/* What fy_guard_kill would answer now to the same order, if the journal had room. It enters nothing,
- * and doesn't allocate. `*struck`, `*rule` and `*named` are those of fy_guard_kill.
+/* What fy_guard_kill would answer now to the same order, if the journal had room. It enters
+ * nothing, and doesn't allocate. `*struck`, `*rule` and `*named` are those of fy_guard_kill.
  *
  * In this order: FY_CLOSED; FY_ARGUMENT where the key, the kind or the floor is none; FY_NAME;
  * FY_FLOOR; FY_REFUSED where there is no actor with this number. */
@@ -496,27 +508,28 @@ static inline fy_status fy_guard_judge(const fy_guard *guard, uint32_t actor, fy
                                        const char *value, fy_kind kind, fy_kind floor,
                                        uint32_t *struck, uint32_t *rule, uint64_t *named)
 {
-    if (!fy_guard_is_open(guard) || value == NULL || struck == NULL || rule == NULL || named == NULL)
+    if (!fy_guard_is_open(guard) || value == NULL || struck == NULL || rule == NULL ||
+        named == NULL)
         return FY_CLOSED;
     return (fy_status)fy_judge(guard, actor, (uint32_t)key, (const uint8_t *)value, strlen(value),
                                (uint32_t)kind, (uint32_t)floor, struck, rule, named);
 }
 
 /* Orders a kill of the process with this number: what fy_guard_kill does with FY_PROCESS and the
- * process's name, and the same entry in the journal. No name is read or looked up, so it is quicker.
- * `*struck`, `*rule` and `*named` are those of fy_guard_kill.
+ * process's name, and the same entry in the journal. No name is read or looked up, so it is
+ * quicker. `*struck`, `*rule` and `*named` are those of fy_guard_kill.
  *
  * In this order: FY_CLOSED; FY_ARGUMENT where the kind or the floor is none, or no process has this
- * number: there is no name to enter, so nothing is entered; FY_FLOOR; FY_JOURNAL_FULL; FY_NO_MEMORY.
- * FY_REFUSED where there is no actor with this number. */
+ * number: there is no name to enter, so nothing is entered; FY_FLOOR; FY_JOURNAL_FULL;
+ * FY_NO_MEMORY. FY_REFUSED where there is no actor with this number. */
 static inline fy_status fy_guard_kill_process(fy_guard *guard, uint32_t actor, uint32_t process,
                                               fy_kind kind, fy_kind floor, uint64_t tear,
                                               uint32_t *struck, uint32_t *rule, uint64_t *named)
 {
     if (!fy_guard_is_open(guard) || struck == NULL || rule == NULL || named == NULL)
         return FY_CLOSED;
-    return (fy_status)fy_kill_process(guard, actor, process, (uint32_t)kind, (uint32_t)floor, tear, struck,
-                                      rule, named);
+    return (fy_status)fy_kill_process(guard, actor, process, (uint32_t)kind, (uint32_t)floor, tear,
+                                      struck, rule, named);
 }
 
 /* What fy_guard_kill_process would answer now to the same order, if the journal had room. It enters
@@ -524,23 +537,23 @@ static inline fy_status fy_guard_kill_process(fy_guard *guard, uint32_t actor, u
  *
  * In this order: FY_CLOSED; FY_ARGUMENT where the kind or the floor is none, or no process has this
  * number; FY_FLOOR; FY_REFUSED where there is no actor with this number. */
-static inline fy_status fy_guard_judge_process(const fy_guard *guard, uint32_t actor, uint32_t process,
-                                               fy_kind kind, fy_kind floor, uint32_t *struck,
-                                               uint32_t *rule, uint64_t *named)
+static inline fy_status fy_guard_judge_process(const fy_guard *guard, uint32_t actor,
+                                               uint32_t process, fy_kind kind, fy_kind floor,
+                                               uint32_t *struck, uint32_t *rule, uint64_t *named)
 {
     if (!fy_guard_is_open(guard) || struck == NULL || rule == NULL || named == NULL)
         return FY_CLOSED;
-    return (fy_status)fy_judge_process(guard, actor, process, (uint32_t)kind, (uint32_t)floor, struck,
-                                       rule, named);
+    return (fy_status)fy_judge_process(guard, actor, process, (uint32_t)kind, (uint32_t)floor,
+                                       struck, rule, named);
 }
 
 /* Which processes may still be killed, and how hard. Byte p of the buffer is the fy_kind by which a
- * kill of process p alone would strike now, ordered by this actor by FY_KILL_INSTANTLY with the floor
- * FY_REBOOT_PROCESS: FY_NONE where nothing would strike. It is what fy_guard_judge_process tells of
- * that order. Each process is judged by itself: once one is killed, fewer may be.
+ * kill of process p alone would strike now, ordered by this actor by FY_KILL_INSTANTLY with the
+ * floor FY_REBOOT_PROCESS: FY_NONE where nothing would strike. It is what fy_guard_judge_process
+ * tells of that order. Each process is judged by itself: once one is killed, fewer may be.
  *
- * `*told` is how many processes there are. The buffer has room for so many bytes, and what is behind
- * the processes in it stays as it was. It enters nothing, and doesn't allocate.
+ * `*told` is how many processes there are. The buffer has room for so many bytes, and what is
+ * behind the processes in it stays as it was. It enters nothing, and doesn't allocate.
  *
  * In this order: FY_CLOSED; FY_REFUSED where there is no actor with this number; FY_SHORT where the
  * buffer has fewer bytes than there are processes. Nothing is written to the buffer then. */
@@ -556,7 +569,8 @@ static inline fy_status fy_guard_killable(const fy_guard *guard, uint32_t actor,
  *
  * In this order: FY_CLOSED, FY_JOURNAL_FULL, FY_NO_MEMORY. FY_REFUSED where it is up, gone or not
  * there, or where the actor may not say so. */
-static inline fy_status fy_guard_up(fy_guard *guard, uint32_t actor, uint32_t process, uint32_t *refusal)
+static inline fy_status fy_guard_up(fy_guard *guard, uint32_t actor, uint32_t process,
+                                    uint32_t *refusal)
 {
     if (!fy_guard_is_open(guard) || refusal == NULL)
         return FY_CLOSED;
@@ -589,35 +603,36 @@ static inline fy_status fy_guard_heal(fy_guard *guard, uint32_t actor, uint32_t 
  * answered where a pointer is null, too.
  */
 
-/* Holds back the messages of each process whose key has the value (a text that ends with a zero) for
- * so many ticks, at most up to the clock's end. By any actor.
+/* Holds back the messages of each process whose key has the value (a text that ends with a zero)
+ * for so many ticks, at most up to the clock's end. By any actor.
  *
  * Sets `rule` and `named`: FY_NO_RULE where it is done, else the rule that bars it. Rules are no
- * refusals: the status is FY_DONE. FY_ARGUMENT where the key is none; FY_NAME. Refusals: FY_STRANGER
- * alone. */
-static inline fy_status fy_guard_clog(fy_guard *guard, uint32_t actor, fy_key key, const char *value,
-                                      uint64_t ticks, fy_reply *reply)
+ * refusals: the status is FY_DONE. FY_ARGUMENT where the key is none; FY_NAME. Refusals:
+ * FY_STRANGER alone. */
+static inline fy_status fy_guard_clog(fy_guard *guard, uint32_t actor, fy_key key,
+                                      const char *value, uint64_t ticks, fy_reply *reply)
 {
     if (!fy_guard_is_open(guard) || value == NULL || reply == NULL)
         return FY_CLOSED;
-    return (fy_status)fy_clog(guard, actor, (uint32_t)key, (const uint8_t *)value, strlen(value), ticks,
-                              reply);
+    return (fy_status)fy_clog(guard, actor, (uint32_t)key, (const uint8_t *)value, strlen(value),
+                              ticks, reply);
 }
 
 /* Ends the clogs of each process whose key has the value. All else is as of fy_guard_clog. */
-static inline fy_status fy_guard_unclog(fy_guard *guard, uint32_t actor, fy_key key, const char *value,
-                                        fy_reply *reply)
+static inline fy_status fy_guard_unclog(fy_guard *guard, uint32_t actor, fy_key key,
+                                        const char *value, fy_reply *reply)
 {
     if (!fy_guard_is_open(guard) || value == NULL || reply == NULL)
         return FY_CLOSED;
-    return (fy_status)fy_unclog(guard, actor, (uint32_t)key, (const uint8_t *)value, strlen(value), reply);
+    return (fy_status)fy_unclog(guard, actor, (uint32_t)key, (const uint8_t *)value, strlen(value),
+                                reply);
 }
 
-/* Forms a team of so many processes, each number above the one before it, under a policy. By an actor
- * whose role is storage.
+/* Forms a team of so many processes, each number above the one before it, under a policy. By an
+ * actor whose role is storage.
  *
- * Sets `team`. FY_ARGUMENT where the numbers don't rise, or are more than FY_MOST_MEMBERS. Refusals:
- * FY_TOO_MANY, FY_NO_POLICY, FY_NO_PROCESS, FY_GONE, FY_TEAM_SHORT. */
+ * Sets `team`. FY_ARGUMENT where the numbers don't rise, or are more than FY_MOST_MEMBERS.
+ * Refusals: FY_TOO_MANY, FY_NO_POLICY, FY_NO_PROCESS, FY_GONE, FY_TEAM_SHORT. */
 static inline fy_status fy_guard_form(fy_guard *guard, uint32_t actor, const uint32_t *members,
                                       size_t count, uint32_t policy, fy_reply *reply)
 {
@@ -629,9 +644,9 @@ static inline fy_status fy_guard_form(fy_guard *guard, uint32_t actor, const uin
 /* Begins a record for a team, and sends each member a store message. By an actor whose role is
  * storage.
  *
- * Sets `record`, and `message`: that of the first member. The messages of the others have the numbers
- * behind it. FY_ARGUMENT where the payload has more than FY_MOST_PAYLOAD bytes. Refusals: FY_NO_TEAM,
- * FY_PAYLOAD, FY_TOO_MANY, FY_NET_FULL. */
+ * Sets `record`, and `message`: that of the first member. The messages of the others have the
+ * numbers behind it. FY_ARGUMENT where the payload has more than FY_MOST_PAYLOAD bytes. Refusals:
+ * FY_NO_TEAM, FY_PAYLOAD, FY_TOO_MANY, FY_NET_FULL. */
 static inline fy_status fy_guard_begin(fy_guard *guard, uint32_t actor, uint32_t team,
                                        const void *payload, size_t length, fy_reply *reply)
 {
@@ -655,15 +670,16 @@ static inline fy_status fy_guard_deliver(fy_guard *guard, uint32_t actor, uint64
 /* Drops a message in flight. By an actor whose role is storage.
  *
  * Sets no field. Refusal: FY_NO_MESSAGE. */
-static inline fy_status fy_guard_lose(fy_guard *guard, uint32_t actor, uint64_t message, fy_reply *reply)
+static inline fy_status fy_guard_lose(fy_guard *guard, uint32_t actor, uint64_t message,
+                                      fy_reply *reply)
 {
     if (!fy_guard_is_open(guard) || reply == NULL)
         return FY_CLOSED;
     return (fy_status)fy_lose(guard, actor, message, reply);
 }
 
-/* Sends a member of a record's team the store message of the record again. By an actor whose role is
- * storage.
+/* Sends a member of a record's team the store message of the record again. By an actor whose role
+ * is storage.
  *
  * Sets `message`. Refusals: FY_NO_RECORD, FY_NOT_MEMBER, FY_ACKED, FY_NET_FULL. */
 static inline fy_status fy_guard_resend(fy_guard *guard, uint32_t actor, uint32_t record,
@@ -677,10 +693,11 @@ static inline fy_status fy_guard_resend(fy_guard *guard, uint32_t actor, uint32_
 /* Syncs what a process has written, and sends an acknowledgement of each write. By an actor whose
  * role is storage.
  *
- * Sets `synced`, and `message`: that of the first write. The messages of the others have the numbers
- * behind it. Where nothing was synced it is the number that the next message gets. Refusals:
- * FY_NO_PROCESS, FY_NOT_UP, FY_NET_FULL. */
-static inline fy_status fy_guard_sync(fy_guard *guard, uint32_t actor, uint32_t process, fy_reply *reply)
+ * Sets `synced`, and `message`: that of the first write. The messages of the others have the
+ * numbers behind it. Where nothing was synced it is the number that the next message gets.
+ * Refusals: FY_NO_PROCESS, FY_NOT_UP, FY_NET_FULL. */
+static inline fy_status fy_guard_sync(fy_guard *guard, uint32_t actor, uint32_t process,
+                                      fy_reply *reply)
 {
     if (!fy_guard_is_open(guard) || reply == NULL)
         return FY_CLOSED;
@@ -690,7 +707,8 @@ static inline fy_status fy_guard_sync(fy_guard *guard, uint32_t actor, uint32_t 
 /* Lets time pass. By an actor whose role is storage.
  *
  * Sets `now`. Refusal: FY_CLOCK_END. */
-static inline fy_status fy_guard_tick(fy_guard *guard, uint32_t actor, uint64_t ticks, fy_reply *reply)
+static inline fy_status fy_guard_tick(fy_guard *guard, uint32_t actor, uint64_t ticks,
+                                      fy_reply *reply)
 {
     if (!fy_guard_is_open(guard) || reply == NULL)
         return FY_CLOSED;
@@ -698,8 +716,8 @@ static inline fy_status fy_guard_tick(fy_guard *guard, uint32_t actor, uint64_t 
 }
 
 /* Gives the actor `to` a grant of a set of kinds: on the processes whose key has the value, or on
- * every process where the key is FY_EVERYONE; the value may be null then, and isn't looked at. By an
- * actor whose role is operator.
+ * every process where the key is FY_EVERYONE; the value may be null then, and isn't looked at. By
+ * an actor whose role is operator.
  *
  * Sets no field. FY_ARGUMENT where a bit is that of no kind, or the key none; FY_NAME. Refusals:
  * FY_NO_ACTOR, FY_FULL. */
@@ -714,12 +732,12 @@ static inline fy_status fy_guard_give(fy_guard *guard, uint32_t actor, uint32_t 
                               strlen(value), reply);
 }
 
-/* Takes away the grant at a place, from 0, of the list of the actor `from`. By an actor whose role is
- * operator.
+/* Takes away the grant at a place, from 0, of the list of the actor `from`. By an actor whose role
+ * is operator.
  *
  * Sets no field. Refusals: FY_NO_ACTOR, FY_NO_SUCH. */
-static inline fy_status fy_guard_take(fy_guard *guard, uint32_t actor, uint32_t from, uint32_t index,
-                                      fy_reply *reply)
+static inline fy_status fy_guard_take(fy_guard *guard, uint32_t actor, uint32_t from,
+                                      uint32_t index, fy_reply *reply)
 {
     if (!fy_guard_is_open(guard) || reply == NULL)
         return FY_CLOSED;
@@ -749,10 +767,10 @@ static inline fy_status fy_guard_unprotect(fy_guard *guard, uint32_t actor, uint
 /* Sends the store message of a record from a process that has it synced to another, a member of its
  * team or not. By an actor whose role is storage.
  *
- * Sets `message`. Refusals: FY_NO_RECORD, FY_NO_PROCESS, FY_GONE (of `to`), FY_NOT_UP and FY_NO_COPY
- * (of `from`), FY_NET_FULL. */
-static inline fy_status fy_guard_copy(fy_guard *guard, uint32_t actor, uint32_t from, uint32_t record,
-                                      uint32_t to, fy_reply *reply)
+ * Sets `message`. Refusals: FY_NO_RECORD, FY_NO_PROCESS, FY_GONE (of `to`), FY_NOT_UP and
+ * FY_NO_COPY (of `from`), FY_NET_FULL. */
+static inline fy_status fy_guard_copy(fy_guard *guard, uint32_t actor, uint32_t from,
+                                      uint32_t record, uint32_t to, fy_reply *reply)
 {
     if (!fy_guard_is_open(guard) || reply == NULL)
         return FY_CLOSED;
@@ -764,8 +782,8 @@ static inline fy_status fy_guard_copy(fy_guard *guard, uint32_t actor, uint32_t 
  *
  * Sets no field. Refusals: FY_NO_TEAM, FY_NO_PROCESS (of `into`), FY_NOT_MEMBER (of `out`),
  * FY_IS_MEMBER, FY_GONE, FY_TEAM_SHORT, FY_STILL_NEEDS (of `into`). */
-static inline fy_status fy_guard_replace(fy_guard *guard, uint32_t actor, uint32_t team, uint32_t out,
-                                         uint32_t into, fy_reply *reply)
+static inline fy_status fy_guard_replace(fy_guard *guard, uint32_t actor, uint32_t team,
+                                         uint32_t out, uint32_t into, fy_reply *reply)
 {
     if (!fy_guard_is_open(guard) || reply == NULL)
         return FY_CLOSED;
@@ -779,9 +797,9 @@ static inline fy_status fy_guard_replace(fy_guard *guard, uint32_t actor, uint32
  *
  * FY_SHORT where the buffer has fewer than `length` + FY_MOST_REPLY bytes: `*told` is that sum, or
  * SIZE_MAX where it is more, and nothing is done, whatever the line is. Then in this order:
- * FY_LINE_TOO_LONG, FY_LINE_SYNTAX, FY_FLOOR, FY_JOURNAL_FULL. FY_NO_MEMORY may take the place of any
- * of these. After each of them `*told` is that sum. An act that is refused is FY_DONE: its line has
- * the refusal. */
+ * FY_LINE_TOO_LONG, FY_LINE_SYNTAX, FY_FLOOR, FY_JOURNAL_FULL. FY_NO_MEMORY may take the place of
+ * any of these. After each of them `*told` is that sum. An act that is refused is FY_DONE: its line
+ * has the refusal. */
 static inline fy_status fy_guard_act(fy_guard *guard, const char *line, size_t length, char *buffer,
                                      size_t buffer_length, size_t *told)
 {
@@ -829,7 +847,8 @@ static inline fy_status fy_guard_targets(const fy_guard *guard, fy_key key, cons
 
 /* Whether a process is destroyed, 1 or 0: struck by a kind that empties its disk, and not healed
  * since. FY_CLOSED, else FY_DONE. */
-static inline fy_status fy_guard_is_destroyed(const fy_guard *guard, uint32_t process, int *destroyed)
+static inline fy_status fy_guard_is_destroyed(const fy_guard *guard, uint32_t process,
+                                              int *destroyed)
 {
     if (!fy_guard_is_open(guard) || destroyed == NULL)
         return FY_CLOSED;
@@ -869,7 +888,8 @@ static inline fy_status fy_guard_state(const fy_guard *guard, uint32_t process, 
 
 /* The record that a process still needs before it may be healed, the one that FY_STILL_NEEDS of
  * fy_guard_heal is about: of its teams' records, the least acknowledged one that it hasn't synced.
- * FY_NO_SUCH_RECORD where there is none, or no process with this number. FY_CLOSED, else FY_DONE. */
+ * FY_NO_SUCH_RECORD where there is none, or no process with this number. FY_CLOSED, else
+ * FY_DONE. */
 static inline fy_status fy_guard_needed(const fy_guard *guard, uint32_t process, uint32_t *record)
 {
     if (!fy_guard_is_open(guard) || record == NULL)
@@ -926,9 +946,9 @@ static inline fy_status fy_guard_sight(const fy_guard *guard, fy_seen *seen)
 }
 
 /* How much of the cluster may still be lost, as the journal left it: the numbers that `faultyard
- * bears CONFIG --after AUDIT` tells first. By all policies any so many processes may be lost together,
- * those lost already among them. Grants and protections don't count. 0 is always exact: some single
- * process is too many then. It enters nothing.
+ * bears CONFIG --after AUDIT` tells first. By all policies any so many processes may be lost
+ * together, those lost already among them. Grants and protections don't count. 0 is always exact:
+ * some single process is too many then. It enters nothing.
  *
  * In this order: FY_CLOSED; FY_NO_MEMORY: nothing is written then. */
 static inline fy_status fy_guard_bears(const fy_guard *guard, fy_borne *borne)
@@ -947,13 +967,14 @@ static inline fy_status fy_guard_journal_len(const fy_guard *guard, size_t *coun
     return FY_DONE;
 }
 
-/* Writes the line of the entry at a place of the journal, from 0, to the front of the buffer, and to
- * `*told` how many bytes it has. What is behind it in the buffer stays as it was. FY_AUDIT_HEADER
- * and these lines are the audit that `faultyard check` reads. It asks for memory for this one line,
- * at once for at most twice its bytes.
+/* Writes the line of the entry at a place of the journal, from 0, to the front of the buffer, and
+ * to `*told` how many bytes it has. What is behind it in the buffer stays as it was.
+ * FY_AUDIT_HEADER and these lines are the audit that `faultyard check` reads. It asks for memory
+ * for this one line, at once for at most twice its bytes.
  *
- * In this order: FY_CLOSED; FY_NO_ENTRY; FY_NO_MEMORY; FY_SHORT where the buffer has fewer bytes than
- * the line, and `*told` is how many that has. After the first three nothing is written to it. */
+ * In this order: FY_CLOSED; FY_NO_ENTRY; FY_NO_MEMORY; FY_SHORT where the buffer has fewer bytes
+ * than the line, and `*told` is how many that has. After the first three nothing is written to
+ * it. */
 static inline fy_status fy_guard_audit(const fy_guard *guard, size_t at, char *buffer,
                                        size_t buffer_length, size_t *told)
 {
@@ -968,7 +989,8 @@ static inline fy_status fy_guard_audit(const fy_guard *guard, size_t at, char *b
  * rounds (docs/FORMATS.md). A swarm's actor a draws from the stream a.
  *
  * In this order: FY_CLOSED; FY_NO_MEMORY: nothing is written then. */
-static inline fy_status fy_guard_words(uint64_t seed, uint64_t stream, uint32_t *words, size_t count)
+static inline fy_status fy_guard_words(uint64_t seed, uint64_t stream, uint32_t *words,
+                                       size_t count)
 {
     if (words == NULL)
         return FY_CLOSED;
@@ -994,15 +1016,16 @@ static inline fy_status fy_guard_swizzle_plan(const fy_guard *guard, uint64_t se
 
 /* Writes an attrition to the front of a buffer, as fy_guard_swizzle_plan does: kills of `to_kill`
  * machines that are drawn from a stream of the seed, or of fewer, so that `to_leave` machines are
- * spared. Each is by the kind, with the floor and the tear. `faultyard swarm` gives it to the second,
- * fourth, .. of its fault actors, with 2, 1, FY_KILL_INSTANTLY, FY_REBOOT and 0.
+ * spared. Each is by the kind, with the floor and the tear. `faultyard swarm` gives it to the
+ * second, fourth, .. of its fault actors, with 2, 1, FY_KILL_INSTANTLY, FY_REBOOT and 0.
  *
- * In this order: FY_CLOSED; FY_ARGUMENT where the kind or the floor is none; FY_FLOOR; FY_NO_MEMORY;
- * FY_SHORT. `*told` and the buffer are as fy_guard_swizzle_plan has them. */
-static inline fy_status fy_guard_attrition_plan(const fy_guard *guard, uint64_t seed, uint64_t stream,
-                                                uint32_t to_kill, uint32_t to_leave, fy_kind kind,
-                                                fy_kind floor, uint64_t tear, fy_order *orders,
-                                                size_t room, size_t *told)
+ * In this order: FY_CLOSED; FY_ARGUMENT where the kind or the floor is none; FY_FLOOR;
+ * FY_NO_MEMORY; FY_SHORT. `*told` and the buffer are as fy_guard_swizzle_plan has them. */
+static inline fy_status fy_guard_attrition_plan(const fy_guard *guard, uint64_t seed,
+                                                uint64_t stream, uint32_t to_kill,
+                                                uint32_t to_leave, fy_kind kind, fy_kind floor,
+                                                uint64_t tear, fy_order *orders, size_t room,
+                                                size_t *told)
 {
     if (!fy_guard_is_open(guard) || orders == NULL || told == NULL)
         return FY_CLOSED;
@@ -1030,9 +1053,9 @@ static inline fy_status fy_guard_plan_orders(const fy_guard *guard, fy_plan plan
 
 /* ---- Audits that are checked line by line */
 
-/* Begins to check an audit of a cluster that began with this cluster file, as `faultyard check` does.
- * What the struct was is written over; where the check isn't begun, it is closed. Statuses as of
- * fy_guard_open. */
+/* Begins to check an audit of a cluster that began with this cluster file, as `faultyard check`
+ * does. What the struct was is written over; where the check isn't begun, it is closed. Statuses as
+ * of fy_guard_open. */
 static inline fy_status fy_check_begin(const char *config, size_t length, fy_check *check)
 {
     if (check == NULL)
@@ -1063,10 +1086,10 @@ static inline int fy_check_is_open(const fy_check *check)
  * `*first_bad` is the place of the first entry so far, from 0, that isn't what the rules give, or
  * FY_NO_BAD_ENTRY. A bad entry is FY_DONE: behind it lines are read for their faults alone.
  *
- * In this order: FY_CLOSED; FY_AUDIT_TOO_LONG; FY_NO_HEADER; FY_LINE_TOO_LONG; FY_LINE_SYNTAX, where
- * the line isn't the one text of an entry that may come next, lacks its line feed, is empty, or has
- * more behind its line feed. FY_NO_MEMORY may take the place of FY_LINE_SYNTAX. But for FY_DONE the
- * line counts as not read. */
+ * In this order: FY_CLOSED; FY_AUDIT_TOO_LONG; FY_NO_HEADER; FY_LINE_TOO_LONG; FY_LINE_SYNTAX,
+ * where the line isn't the one text of an entry that may come next, lacks its line feed, is empty,
+ * or has more behind its line feed. FY_NO_MEMORY may take the place of FY_LINE_SYNTAX. But for
+ * FY_DONE the line counts as not read. */
 static inline fy_status fy_check_line(fy_check *check, const char *line, size_t length,
                                       uint32_t *first_bad)
 {
@@ -1079,7 +1102,8 @@ static inline fy_status fy_check_line(fy_check *check, const char *line, size_t 
  * and `*first_bad` as fy_check_line tells it. The check goes on.
  *
  * In this order: FY_CLOSED; FY_NO_HEADER where no line was read, and `*count` is 0. */
-static inline fy_status fy_check_finding(const fy_check *check, uint32_t *count, uint32_t *first_bad)
+static inline fy_status fy_check_finding(const fy_check *check, uint32_t *count,
+                                         uint32_t *first_bad)
 {
     if (!fy_check_is_open(check) || count == NULL || first_bad == NULL)
         return FY_CLOSED;

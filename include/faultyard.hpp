@@ -11,9 +11,9 @@
  * a test go on as if the act were made. A refused act throws too, with `Status::Refused` and its
  * reason. A kill that a rule bars is an answer, and throws nothing.
  *
- * A guard may move to another thread, and one call at a time is made with it: threads that share one
- * take turns, by a mutex. Guards of different threads share nothing. No call may come from a signal
- * handler, nor from a child that a process with threads forked.
+ * A guard may move to another thread, and one call at a time is made with it: threads that share
+ * one take turns, by a mutex. Guards of different threads share nothing. No call may come from a
+ * signal handler, nor from a child that a process with threads forked.
  */
 #ifndef FAULTYARD_HPP
 #define FAULTYARD_HPP
@@ -266,8 +266,8 @@ inline constexpr Text STATUSES[] = {
     {"Short", "the buffer is too short"},
     {"Unwritten", "the act is made and stands in the journal, but its line could not be written"},
     {"NoEntry", "the journal has no entry at this place"},
-    {"Argument",
-     "there is no such key, kind or floor, or process to kill, members don't rise, or a payload is too long"},
+    {"Argument", "there is no such key, kind or floor, or process to kill, members don't rise, "
+                 "or a payload is too long"},
     {"Name", "the value of the target is no name"},
     {"Floor", "the floor of the kill is above its kind"},
     {"LineTooLong", "the line has more than 65,536 bytes"},
@@ -753,9 +753,9 @@ public:
         return verdict_of(struck, rule, named);
     }
 
-    /* Of each process, by its number, the kind by which a kill of it alone would strike now, ordered
-     * by this actor by KillInstantly; empty where nothing would strike. Once one is killed, fewer may
-     * be. It enters nothing.
+    /* Of each process, by its number, the kind by which a kill of it alone would strike now,
+     * ordered by this actor by KillInstantly; empty where nothing would strike. Once one is killed,
+     * fewer may be. It enters nothing.
      * Throws in order Closed; Refused where there is no such actor; NoMemory. */
     [[nodiscard]] std::vector<std::optional<Kind>> killable(std::uint32_t actor) const
     {
@@ -1047,8 +1047,8 @@ public:
         return sight;
     }
 
-    /* How much of the cluster may still be lost, as the journal left it: the numbers that `faultyard
-     * bears` tells first. Throws in order Closed, NoMemory. */
+    /* How much of the cluster may still be lost, as the journal left it: the numbers that
+     * `faultyard bears` tells first. Throws in order Closed, NoMemory. */
     Borne bears() const
     {
         fy_borne told = {};
@@ -1339,9 +1339,9 @@ struct Finding {
     }
 };
 
-/* An audit that is checked line by line, as `faultyard check` does. It is moved and never copied. It
- * may be used by another thread, one call at a time. After `close`, and after it was moved from, each
- * call throws Closed. */
+/* An audit that is checked line by line, as `faultyard check` does. It is moved and never copied.
+ * It may be used by another thread, one call at a time. After `close`, and after it was moved from,
+ * each call throws Closed. */
 class Check {
 public:
     /* Begins to check an audit of a cluster that began with this cluster file. Throws as the

@@ -1,9 +1,10 @@
 #!/usr/bin/env python3
 """Counts what occurs in audits; what `sweep` knows of them is from here.
 
-    tools/counts.py audits CONFIG         reads paths of audits, a path a line, and writes what each holds, a JSON object a line
-    tools/counts.py table RAN WANTED      reads the rows of a sweep, and writes the table of all seeds; status 1 where one is
-                                          bad or missing
+    tools/counts.py audits CONFIG         reads paths of audits, a path a line, and writes what each
+                                          holds, a JSON object a line
+    tools/counts.py table RAN WANTED      reads the rows of a sweep, and writes the table of all
+                                          seeds; status 1 where one is bad or missing
 
 Struck, barred, refused and replied is what the replies say. A record is acknowledged once the
 delivery of an acknowledgement was answered so. A holder of a record has synced it and isn't

@@ -5,8 +5,8 @@
 #   sbatch --array=0-9 tools/sweep.sbatch FOLDER
 #   tools/sweep-batches table FOLDER        once all have ended
 #
-# Every node has to see these files, the program and FOLDER. What was cut off goes on when the array is
-# sent in again. Installed, both files lie in lib/faultyard.
+# Every node has to see these files, the program and FOLDER. What was cut off goes on when the array
+# is sent in again. Installed, both files lie in lib/faultyard.
 #SBATCH --job-name=sweep
 #SBATCH --ntasks=1
 #SBATCH --output=/dev/null

@@ -8,8 +8,8 @@ import (
 	"unsafe"
 )
 
-// The acts by numbers are calls of their own: no text is made of them and read again. Each stands in
-// the journal afterwards, refused or not.
+// The acts by numbers are calls of their own: no text is made of them and read again. Each stands
+// in the journal afterwards, refused or not.
 //
 // The error of each is the first of ErrClosed, those that it names, ErrJournalFull, ErrNoMemory; or
 // a Refusal, the first that holds of those that faultyard.h lists for the call. After
@@ -87,8 +87,8 @@ type Delivered struct {
 	Acked bool
 }
 
-// Clog holds back the messages of each process whose key has the value for so many ticks. One that a
-// rule bars is no error. It names ErrArgument, ErrName.
+// Clog holds back the messages of each process whose key has the value for so many ticks. One that
+// a rule bars is no error. It names ErrArgument, ErrName.
 func (guard *Guard) Clog(actor uint32, key Key, value string, ticks uint64) (Ruling, error) {
 	text, length := bytesOf([]byte(value))
 	reply, err := guard.made(func(its *C.fy_guard, reply *C.fy_reply) C.uint32_t {
@@ -107,8 +107,8 @@ func (guard *Guard) Unclog(actor uint32, key Key, value string) (Ruling, error) 
 	return Ruling{Rule(reply.rule), uint64(reply.named)}, err
 }
 
-// Form forms a team of these processes, by rising number, under a policy, and answers its number. It
-// names ErrArgument, where the numbers don't rise or are more than 1024.
+// Form forms a team of these processes, by rising number, under a policy, and answers its number.
+// It names ErrArgument, where the numbers don't rise or are more than 1024.
 func (guard *Guard) Form(actor uint32, members []uint32, policy uint32) (uint32, error) {
 	numbers := append(append([]uint32{}, members...), 0)
 	first := (*C.uint32_t)(unsafe.Pointer(&numbers[0]))
@@ -203,8 +203,8 @@ func (guard *Guard) Unprotect(actor, process uint32, kinds Kinds) error {
 	return err
 }
 
-// Copy sends the store message of a record from a process that has it synced to another, and answers
-// the message's number.
+// Copy sends the store message of a record from a process that has it synced to another, and
+// answers the message's number.
 func (guard *Guard) Copy(actor, from, record, to uint32) (uint64, error) {
 	reply, err := guard.made(func(its *C.fy_guard, reply *C.fy_reply) C.uint32_t {
 		return C.fy_copy(its, C.uint32_t(actor), C.uint32_t(from), C.uint32_t(record),

@@ -68,12 +68,13 @@ const (
 )
 
 var statusTexts = []string{
-	ErrNoMemory:      "there was no memory",
-	ErrJournalFull:   "the journal has as many entries as the cluster file allows",
-	ErrRefused:       "the act is refused",
-	ErrUnwritten:     "the act is made, but its line could not be written",
-	ErrNoEntry:       "the journal has no entry at this place",
-	ErrArgument:      "there is no such key, kind or floor, or process to kill, members don't rise, a payload is too long, or a count is below 0",
+	ErrNoMemory:    "there was no memory",
+	ErrJournalFull: "the journal has as many entries as the cluster file allows",
+	ErrRefused:     "the act is refused",
+	ErrUnwritten:   "the act is made, but its line could not be written",
+	ErrNoEntry:     "the journal has no entry at this place",
+	ErrArgument: "there is no such key, kind or floor, or process to kill, members don't rise, " +
+		"a payload is too long, or a count is below 0",
 	ErrName:          "the value of the target is no name",
 	ErrFloor:         "the floor of the kill is above its kind",
 	ErrLineTooLong:   "the line has more than 65,536 bytes",

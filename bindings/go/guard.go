@@ -50,8 +50,8 @@ func Open(config []byte) (*Guard, error) {
 	return freed(guard), nil
 }
 
-// OpenAfter opens a guard that goes on where an audit ends, by its whole text: its journal is that of
-// the audit, whose acts are made once more.
+// OpenAfter opens a guard that goes on where an audit ends, by its whole text: its journal is that
+// of the audit, whose acts are made once more.
 //
 // Its error is, in this order, that of Open; ErrAuditTooLong; ErrNoHeader, also for an audit of the
 // first version; then of the first line that is at fault ErrLineTooLong, ErrLineSyntax (half a last
@@ -201,8 +201,8 @@ type ProcessOrder struct {
 // KillProcess does what Kill does with the name of the process. No name is looked up, so it is
 // quicker.
 //
-// Its error is the first of ErrClosed, ErrArgument (also where no process has the number), ErrFloor,
-// ErrJournalFull, ErrNoMemory; or RefusalStranger where there is no such actor.
+// Its error is the first of ErrClosed, ErrArgument (also where no process has the number),
+// ErrFloor, ErrJournalFull, ErrNoMemory; or RefusalStranger where there is no such actor.
 func (guard *Guard) KillProcess(actor uint32, order ProcessOrder) (Verdict, error) {
 	return guard.verdict(func(
 		its *C.fy_guard, struck, rule *C.uint32_t, named *C.uint64_t,
@@ -212,8 +212,8 @@ func (guard *Guard) KillProcess(actor uint32, order ProcessOrder) (Verdict, erro
 	})
 }
 
-// JudgeProcess answers what KillProcess would answer now to the same order, if the journal had room.
-// It enters nothing.
+// JudgeProcess answers what KillProcess would answer now to the same order, if the journal had
+// room. It enters nothing.
 //
 // Its error is the first of ErrClosed, ErrArgument, ErrFloor; or RefusalStranger where there is no
 // such actor.
@@ -226,9 +226,9 @@ func (guard *Guard) JudgeProcess(actor uint32, order ProcessOrder) (Verdict, err
 	})
 }
 
-// Killable answers of each process, by its number, the kind by which a kill of it alone would strike
-// now, ordered by this actor by KillInstantly with the floor RebootProcess; None where nothing would
-// strike. Once one is killed, fewer may be. It enters nothing.
+// Killable answers of each process, by its number, the kind by which a kill of it alone would
+// strike now, ordered by this actor by KillInstantly with the floor RebootProcess; None where
+// nothing would strike. Once one is killed, fewer may be. It enters nothing.
 //
 // Its error is ErrClosed, or RefusalStranger where there is no such actor.
 func (guard *Guard) Killable(actor uint32) ([]Kind, error) {
@@ -447,8 +447,8 @@ func (guard *Guard) State(process uint32) (State, bool, error) {
 }
 
 // Needed answers the record that a process still needs before it may be healed: of its teams'
-// records, the least acknowledged one that it hasn't synced. It is NoSuchRecord where there is none.
-// Heal is refused with RefusalStillNeeds for it. Its error is ErrClosed.
+// records, the least acknowledged one that it hasn't synced. It is NoSuchRecord where there is
+// none. Heal is refused with RefusalStillNeeds for it. Its error is ErrClosed.
 func (guard *Guard) Needed(process uint32) (uint32, error) {
 	record := NoSuchRecord
 	err := guard.do(func(its *C.fy_guard) {
@@ -526,8 +526,8 @@ func (guard *Guard) Sight() (Sight, error) {
 	}, nil
 }
 
-// Borne is how much of the cluster may still be lost: any so many processes together, whichever they
-// are.
+// Borne is how much of the cluster may still be lost: any so many processes together, whichever
+// they are.
 type Borne struct {
 	// Emptied is how many may be emptied.
 	Emptied uint32

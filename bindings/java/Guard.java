@@ -212,7 +212,9 @@ public final class Guard implements AutoCloseable {
             this.struck = struck;
         }
 
-        /** Do this to every process of the target that isn't gone. Where it is empty, do nothing. */
+        /**
+         * Do this to every process of the target that isn't gone. Where it is empty, do nothing.
+         */
         public Optional<Kind> struck() {
             return Optional.ofNullable(struck);
         }
@@ -470,8 +472,8 @@ public final class Guard implements AutoCloseable {
 
     /**
      * Orders a kill of the processes whose key has the value, by {@code kind}, or where that is
-     * barred by the hardest kind down to {@code floor} that isn't. {@code tear}, an unsigned number,
-     * chooses the unsynced writes that a simulated disk keeps.
+     * barred by the hardest kind down to {@code floor} that isn't. {@code tear}, an unsigned
+     * number, chooses the unsynced writes that a simulated disk keeps.
      */
     public Verdict kill(int by, Key key, String value, Kind kind, Kind floor, long tear) {
         return make(by, "kill", order(key, value, kind, floor, tear), Guard::verdict);
@@ -524,7 +526,8 @@ public final class Guard implements AutoCloseable {
     public Begun begin(int by, int team, byte[] payload) {
         StringBuilder digits = new StringBuilder(2 * payload.length);
         for (byte one : payload) {
-            digits.append(Character.forDigit((one >> 4) & 15, 16)).append(Character.forDigit(one & 15, 16));
+            digits.append(Character.forDigit((one >> 4) & 15, 16));
+            digits.append(Character.forDigit(one & 15, 16));
         }
         String act = "\"payload\":\"" + digits + "\",\"team\":" + number(team);
         return make(by, "begin", act, reply -> {
@@ -576,18 +579,21 @@ public final class Guard implements AutoCloseable {
 
     /** Sends a record from a process that has it synced to another; the message's number. */
     public long copy(int by, int record, int from, int to) {
-        String act = "\"from\":" + number(from) + ",\"record\":" + number(record) + ",\"to\":" + number(to);
+        String act =
+            "\"from\":" + number(from) + ",\"record\":" + number(record) + ",\"to\":" + number(to);
         return make(by, "copy", act, reply -> single(reply, "sent"));
     }
 
     /** Puts the process {@code into} into a team, in place of its member {@code out}. */
     public void replace(int by, int team, int out, int into) {
-        done(by, "replace", "\"into\":" + number(into) + ",\"out\":" + number(out) + ",\"team\":" + number(team));
+        done(by, "replace",
+            "\"into\":" + number(into) + ",\"out\":" + number(out) + ",\"team\":" + number(team));
     }
 
     /** Lets time pass, by an unsigned number of ticks; the time then. */
     public long tick(int by, long ticks) {
-        return make(by, "tick", "\"ticks\":" + Long.toUnsignedString(ticks), reply -> single(reply, "time"));
+        String act = "\"ticks\":" + Long.toUnsignedString(ticks);
+        return make(by, "tick", act, reply -> single(reply, "time"));
     }
 
     // Acts of role operator.
@@ -613,7 +619,8 @@ public final class Guard implements AutoCloseable {
     }
 
     private void give(int by, int actor, Set<Kind> kinds, String scope) {
-        done(by, "give", "\"actor\":" + number(actor) + ",\"kinds\":" + words(kinds) + ",\"scope\":" + scope);
+        done(by, "give",
+            "\"actor\":" + number(actor) + ",\"kinds\":" + words(kinds) + ",\"scope\":" + scope);
     }
 
     /** Takes away an actor's grant, by its place. */
@@ -624,9 +631,9 @@ public final class Guard implements AutoCloseable {
     // Looking ahead, and beginning again.
 
     /**
-     * What {@link #kill} would answer now to the same order. It enters nothing. {@code faultyard guard
-     * --after} is asked, which is started for each call and makes the acts of the journal once more.
-     * Throws {@link JournalFull} where the journal has no room for the kill.
+     * What {@link #kill} would answer now to the same order. It enters nothing. {@code faultyard
+     * guard --after} is asked, which is started for each call and makes the acts of the journal
+     * once more. Throws {@link JournalFull} where the journal has no room for the kill.
      */
     public synchronized Verdict judge(int by, Key key, String value, Kind kind, Kind floor) {
         return judged(by, List.of(order(key, value, kind, floor, 0))).get(0);
@@ -638,9 +645,9 @@ public final class Guard implements AutoCloseable {
     }
 
     /**
-     * Of each process, by its number, the kind by which a kill of it alone would strike now, ordered
-     * by {@code KILL_INSTANTLY}; empty where nothing would strike. Once one is killed, fewer may be.
-     * It asks as {@link #judge} does, once for each process.
+     * Of each process, by its number, the kind by which a kill of it alone would strike now,
+     * ordered by {@code KILL_INSTANTLY}; empty where nothing would strike. Once one is killed,
+     * fewer may be. It asks as {@link #judge} does, once for each process.
      */
     public synchronized List<Optional<Kind>> killable(int by) {
         List<String> orders =
@@ -719,13 +726,14 @@ public final class Guard implements AutoCloseable {
         int end = entry.indexOf(",\"at\":");
         int by = entry.indexOf(",\"by\":", end) + 6;
         String actor = entry.substring(by, entry.indexOf(',', by));
-        return "{\"by\":" + actor + ",\"act\":" + entry.substring("{\"act\":".length(), end) + "}\n";
+        String act = entry.substring("{\"act\":".length(), end);
+        return "{\"by\":" + actor + ",\"act\":" + act + "}\n";
     }
 
     /**
-     * Puts the guard back to where nothing happened yet, with no entry in its journal. Its program is
-     * ended and started again, and reads the cluster file again. Throws what a constructor throws,
-     * and is at its end then.
+     * Puts the guard back to where nothing happened yet, with no entry in its journal. Its program
+     * is ended and started again, and reads the cluster file again. Throws what a constructor
+     * throws, and is at its end then.
      */
     public synchronized void reset() {
         requireOpen();
@@ -754,7 +762,9 @@ public final class Guard implements AutoCloseable {
     public synchronized OptionalInt process(String name) {
         String wanted = name(name);
         List<Map<Key, String>> all = places();
-        return IntStream.range(0, all.size()).filter(p -> wanted.equals(all.get(p).get(Key.PROCESS))).findFirst();
+        return IntStream.range(0, all.size())
+            .filter(p -> wanted.equals(all.get(p).get(Key.PROCESS)))
+            .findFirst();
     }
 
     /** How many processes there are; they are numbered from 0. */
@@ -763,8 +773,8 @@ public final class Guard implements AutoCloseable {
     }
 
     /**
-     * Whom a kill is about: the processes whose key has the value and that aren't gone for good. Ask
-     * before the kill, which may be for good.
+     * Whom a kill is about: the processes whose key has the value and that aren't gone for good.
+     * Ask before the kill, which may be for good.
      */
     public synchronized Set<Integer> targets(Key key, String value) {
         return numbers(followed().targets(key, name(value)));
@@ -862,12 +872,16 @@ public final class Guard implements AutoCloseable {
         });
     }
 
-    /** What the program writes that is started with these words. It is ended where that takes too long. */
+    /**
+     * What the program writes that is started with these words. It is ended where that takes too
+     * long.
+     */
     private String told(String given, String... words) throws IOException {
         List<String> command = new ArrayList<>(List.of(program));
         command.addAll(List.of(words));
         Process asked = new ProcessBuilder(command).redirectErrorStream(true).start();
-        Future<?> watch = WATCH.schedule(asked::destroyForcibly, timeout.toMillis(), TimeUnit.MILLISECONDS);
+        Future<?> watch =
+            WATCH.schedule(asked::destroyForcibly, timeout.toMillis(), TimeUnit.MILLISECONDS);
         try (InputStream output = asked.getInputStream()) {
             finish(asked.getOutputStream(), given);
             return new String(output.readAllBytes(), StandardCharsets.UTF_8);
@@ -1064,21 +1078,25 @@ public final class Guard implements AutoCloseable {
     }
 
     private static String name(String value) {
-        require(NAME.matcher(value).matches(), "no name of 1 to 32 characters A-Z a-z 0-9 _ -: " + value);
+        require(NAME.matcher(value).matches(),
+            "no name of 1 to 32 characters A-Z a-z 0-9 _ -: " + value);
         return value;
     }
 
     private static String words(Set<Kind> kinds) {
         // A set of an enum goes through it in order, as an audit has the kinds.
         Set<Kind> rising = kinds.isEmpty() ? Set.of() : EnumSet.copyOf(kinds);
-        return rising.stream().map(kind -> "\"" + kind.word + "\"").collect(Collectors.joining(",", "[", "]"));
+        return rising.stream()
+            .map(kind -> "\"" + kind.word + "\"")
+            .collect(Collectors.joining(",", "[", "]"));
     }
 
     private static String order(Key key, String value, Kind kind, Kind floor, long tear) {
         require(kind != Kind.CLOG, "no kind of kill: " + kind);
         require(floor.compareTo(kind) <= 0, "the floor " + floor + " is above the kind " + kind);
-        return "\"floor\":\"" + floor.word + "\",\"key\":\"" + key.word + "\",\"kind\":\"" + kind.word
-            + "\",\"tear\":" + Long.toUnsignedString(tear) + ",\"value\":\"" + name(value) + "\"";
+        return "\"floor\":\"" + floor.word + "\",\"key\":\"" + key.word
+            + "\",\"kind\":\"" + kind.word + "\",\"tear\":" + Long.toUnsignedString(tear)
+            + ",\"value\":\"" + name(value) + "\"";
     }
 
     private static Verdict verdict(Text reply) {
@@ -1196,13 +1214,16 @@ public final class Guard implements AutoCloseable {
     private static final class States {
         private static final long LAST_TICK = 1L << 40;
         private static final Pattern STRUCK =
-            Pattern.compile("\\{\"act\":\\{\"kill\":.*\"key\":\"(\\w+)\".*\"value\":\"([^\"]+)\"}},.*\"struck\":\"(\\w+)\"}}}");
+            Pattern.compile(
+                "\\{\"act\":\\{\"kill\":.*\"key\":\"(\\w+)\".*\"value\":\"([^\"]+)\"}},"
+                    + ".*\"struck\":\"(\\w+)\"}}}");
         private static final Pattern CLOGGED =
             Pattern.compile(
                 "\\{\"act\":\\{\"(?:un)?clog\":\\{\"key\":\"(\\w+)\",(?:\"ticks\":(\\d+),)?"
                     + "\"value\":\"([^\"]+)\"}},.*\"ruled\":null}}");
         private static final Pattern TOLD =
-            Pattern.compile("\\{\"act\":\\{\"(up|heal)\":\\{\"process\":(\\d+)}},.*\"reply\":\"done\"}");
+            Pattern.compile(
+                "\\{\"act\":\\{\"(up|heal)\":\\{\"process\":(\\d+)}},.*\"reply\":\"done\"}");
         private static final Pattern TICKED =
             Pattern.compile("\\{\"act\":\\{\"tick\":.*\"reply\":\\{\"time\":(\\d+)}}");
 
@@ -1226,7 +1247,8 @@ public final class Guard implements AutoCloseable {
             Matcher told = TOLD.matcher(entry);
             Matcher ticked = TICKED.matcher(entry);
             if (struck.matches()) {
-                strike(targets(key(struck.group(1)), struck.group(2)), find(Kind.values(), it -> it.word, struck.group(3)));
+                strike(targets(key(struck.group(1)), struck.group(2)),
+                    find(Kind.values(), it -> it.word, struck.group(3)));
             } else if (clogged.matches()) {
                 clog(targets(key(clogged.group(1)), clogged.group(3)), clogged.group(2));
             } else if (told.matches() && told.group(1).equals("up")) {
@@ -1252,7 +1274,9 @@ public final class Guard implements AutoCloseable {
             }
         }
 
-        /** A clog shortens no other, and lasts no longer than the clock; without ticks clogs end. */
+        /**
+         * A clog shortens no other, and lasts no longer than the clock; without ticks clogs end.
+         */
         private void clog(BitSet clogged, String ticks) {
             long most = LAST_TICK - now;
             long asked = ticks == null ? 0 : Long.parseUnsignedLong(ticks);
@@ -1265,7 +1289,9 @@ public final class Guard implements AutoCloseable {
 
         BitSet targets(Key key, String value) {
             BitSet found = new BitSet();
-            IntStream.range(0, places.size()).filter(p -> value.equals(places.get(p).get(key))).forEach(found::set);
+            IntStream.range(0, places.size())
+                .filter(p -> value.equals(places.get(p).get(key)))
+                .forEach(found::set);
             found.andNot(gone);
             return found;
         }
@@ -1275,7 +1301,9 @@ public final class Guard implements AutoCloseable {
                 return Optional.empty();
             }
             boolean isClogged = now < cloggedUntil[process];
-            return Optional.of(new State(up.get(process), isClogged, destroyed.get(process), gone.get(process)));
+            State state =
+                new State(up.get(process), isClogged, destroyed.get(process), gone.get(process));
+            return Optional.of(state);
         }
     }
 
@@ -1286,7 +1314,9 @@ public final class Guard implements AutoCloseable {
     private static final class Toml extends Text {
         private static final Pattern BARE = Pattern.compile("[A-Za-z0-9_+-]+");
         private static final Pattern ESCAPE =
-            Pattern.compile("\\\\(?:u([0-9A-Fa-f]{4})|U([0-9A-Fa-f]{8})|x([0-9A-Fa-f]{2})|[ \\t]*\\r?\\n\\s*)");
+            Pattern.compile(
+                "\\\\(?:u([0-9A-Fa-f]{4})|U([0-9A-Fa-f]{8})|x([0-9A-Fa-f]{2})"
+                    + "|[ \\t]*\\r?\\n\\s*)");
         private static final List<String> QUOTES = List.of("\"\"\"", "'''", "\"", "'");
 
         private Toml(String text) {
@@ -1393,7 +1423,9 @@ public final class Guard implements AutoCloseable {
             String raw = text.substring(at, end);
             at = end + quote.length();
             String inside = quote.length() == 1 ? raw : raw.replaceFirst("\\A\r?\n", "");
-            return quote.startsWith("'") ? inside : ESCAPE.matcher(inside).replaceAll(Toml::unescaped);
+            return quote.startsWith("'")
+                ? inside
+                : ESCAPE.matcher(inside).replaceAll(Toml::unescaped);
         }
 
         private static String unescaped(MatchResult escape) {

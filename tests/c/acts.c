@@ -33,10 +33,10 @@ static int line_of(char *line, uint32_t *actor, uint32_t *key, char *value, uint
     int at = sprintf(line, "{\"by\":%u,\"act\":", (unsigned)*actor);
     line += at;
     if (act < 4)
-        sprintf(
-            line,
-            "{\"kill\":{\"floor\":\"%s\",\"key\":\"%s\",\"kind\":\"%s\",\"tear\":5,\"value\":\"%s\"}}}",
-            KINDS[*floor], KEYS[*key], KINDS[*kind], value);
+        sprintf(line,
+                "{\"kill\":{\"floor\":\"%s\",\"key\":\"%s\",\"kind\":\"%s\",\"tear\":5,"
+                "\"value\":\"%s\"}}}",
+                KINDS[*floor], KEYS[*key], KINDS[*kind], value);
     else if (act < 9)
         sprintf(line, "{\"up\":{\"process\":%u}}}", (unsigned)*process);
     else if (act < 10)

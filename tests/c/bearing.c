@@ -1,4 +1,5 @@
-/* How much may still be lost, held against every set of the six processes, and against what `faultyard bears` prints. */
+/* How much may still be lost, held against every set of the six processes, and against what
+ * `faultyard bears` prints. */
 #include "faultyard.h"
 #include "told.h"
 
@@ -78,11 +79,14 @@ static const char *const CROSSED =
     "journal_limit = 9\n"
     "policies = [\"And(Across(3,zoneid,One()),Across(3,machineid,One()))\"]\n"
     "process = [{processid = \"p0\", machineid = \"m0\", zoneid = \"z0\"},\n"
-    "  {processid = \"p1\", machineid = \"m0\", zoneid = \"z1\"}, {processid = \"p2\", machineid = \"m0\", zoneid = \"z2\"},\n"
-    "  {processid = \"p3\", machineid = \"m1\", zoneid = \"z0\"}, {processid = \"p4\", machineid = \"m2\", zoneid = \"z0\"}]\n"
+    "  {processid = \"p1\", machineid = \"m0\", zoneid = \"z1\"}, "
+    "{processid = \"p2\", machineid = \"m0\", zoneid = \"z2\"},\n"
+    "  {processid = \"p3\", machineid = \"m1\", zoneid = \"z0\"}, "
+    "{processid = \"p4\", machineid = \"m2\", zoneid = \"z0\"}]\n"
     "actor = [{role = \"storage\"}]\n";
 
-/* What `faultyard bears` prints of these clusters, and each status; FY_NO_MEMORY is that of memory.c. */
+/* What `faultyard bears` prints of these clusters, and each status; FY_NO_MEMORY is that of
+ * memory.c. */
 static void cases(void)
 {
     fy_guard six = open_guard(SIX), three = open_guard(THREE), crossed = open_guard(CROSSED),

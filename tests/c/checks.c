@@ -1,4 +1,5 @@
-/* Audits that are checked line by line, by the words of docs/FORMATS.md. checks.py compares what is found with `faultyard check`. */
+/* Audits that are checked line by line, by the words of docs/FORMATS.md. checks.py compares what is
+ * found with `faultyard check`. */
 #include "faultyard.h"
 #include "told.h"
 
@@ -10,14 +11,18 @@
     ",\"by\":0,\"reply\":{\"no\":[\"NotDestroyed\"]}}\n"
 
 static const char *const KILLED =
-    "{\"act\":{\"kill\":{\"floor\":\"Reboot\",\"key\":\"zoneid\",\"kind\":\"KillInstantly\",\"tear\":0,\"value\":\"z0\"}},"
+    "{\"act\":{\"kill\":{\"floor\":\"Reboot\",\"key\":\"zoneid\",\"kind\":\"KillInstantly\","
+    "\"tear\":0,\"value\":\"z0\"}},"
     "\"at\":0,\"by\":1,\"reply\":{\"verdict\":{\"rule\":null,\"struck\":\"KillInstantly\"}}}\n";
 static const char *const REBOOTED =
-    "{\"act\":{\"kill\":{\"floor\":\"Reboot\",\"key\":\"zoneid\",\"kind\":\"KillInstantly\",\"tear\":0,\"value\":\"z1\"}},"
-    "\"at\":1,\"by\":1,\"reply\":{\"verdict\":{\"rule\":[\"TooManyDestroyed\",0],\"struck\":\"Reboot\"}}}\n";
+    "{\"act\":{\"kill\":{\"floor\":\"Reboot\",\"key\":\"zoneid\",\"kind\":\"KillInstantly\","
+    "\"tear\":0,\"value\":\"z1\"}},"
+    "\"at\":1,\"by\":1,\"reply\":{\"verdict\":{\"rule\":[\"TooManyDestroyed\",0],"
+    "\"struck\":\"Reboot\"}}}\n";
 /* What would destroy the last copy: no rule allows it. */
 static const char *const KILLED_TOO =
-    "{\"act\":{\"kill\":{\"floor\":\"Reboot\",\"key\":\"zoneid\",\"kind\":\"KillInstantly\",\"tear\":0,\"value\":\"z1\"}},"
+    "{\"act\":{\"kill\":{\"floor\":\"Reboot\",\"key\":\"zoneid\",\"kind\":\"KillInstantly\","
+    "\"tear\":0,\"value\":\"z1\"}},"
     "\"at\":1,\"by\":1,\"reply\":{\"verdict\":{\"rule\":null,\"struck\":\"KillInstantly\"}}}\n";
 
 static fy_check begin(const char *config)
@@ -202,9 +207,9 @@ static void closed(void)
     fy_check_end(&check);
 }
 
-/* Lines of 65,536 bytes, until there are more bytes than an audit may have. The first is a stranger's
- * and isn't told so, thus bad: no act is made once more. Under
- * valgrind this takes minutes: the word `long` asks for it. */
+/* Lines of 65,536 bytes, until there are more bytes than an audit may have. The first is a
+ * stranger's and isn't told so, thus bad: no act is made once more. Under valgrind this takes
+ * minutes: the word `long` asks for it. */
 static void longest_audit(void)
 {
     static char line[65600];

@@ -3,13 +3,17 @@
 #include "told.h"
 
 static const char *KILLED_ZONE =
-    "{\"act\":{\"kill\":{\"floor\":\"Reboot\",\"key\":\"zoneid\",\"kind\":\"KillInstantly\",\"tear\":0,\"value\":\"z0\"}},"
+    "{\"act\":{\"kill\":{\"floor\":\"Reboot\",\"key\":\"zoneid\",\"kind\":\"KillInstantly\","
+    "\"tear\":0,\"value\":\"z0\"}},"
     "\"at\":0,\"by\":1,\"reply\":{\"verdict\":{\"rule\":null,\"struck\":\"KillInstantly\"}}}\n";
 static const char *REBOOTED_ZONE =
-    "{\"act\":{\"kill\":{\"floor\":\"Reboot\",\"key\":\"zoneid\",\"kind\":\"KillInstantly\",\"tear\":0,\"value\":\"z1\"}},"
-    "\"at\":1,\"by\":1,\"reply\":{\"verdict\":{\"rule\":[\"TooManyDestroyed\",0],\"struck\":\"Reboot\"}}}\n";
+    "{\"act\":{\"kill\":{\"floor\":\"Reboot\",\"key\":\"zoneid\",\"kind\":\"KillInstantly\","
+    "\"tear\":0,\"value\":\"z1\"}},"
+    "\"at\":1,\"by\":1,\"reply\":{\"verdict\":{\"rule\":[\"TooManyDestroyed\",0],"
+    "\"struck\":\"Reboot\"}}}\n";
 static const char *KILL_ZONE =
-    "{\"by\":1,\"act\":{\"kill\":{\"key\":\"zoneid\",\"value\":\"z1\",\"kind\":\"KillInstantly\",\"floor\":\"Reboot\",\"tear\":0}}}";
+    "{\"by\":1,\"act\":{\"kill\":{\"key\":\"zoneid\",\"value\":\"z1\",\"kind\":\"KillInstantly\","
+    "\"floor\":\"Reboot\",\"tear\":0}}}";
 
 static fy_status kill(fy_guard *guard, uint32_t actor, fy_key key, const char *value, fy_kind kind,
                       fy_kind floor)
@@ -165,7 +169,8 @@ static void act(fy_guard *guard, const char *line)
     EQUAL(strstr(buffer, "\"no\"") == NULL, 1);
 }
 
-/* The sets of a guard: who is up, left, destroyed and gone. What has become of each process agrees. */
+/* The sets of a guard: who is up, left, destroyed and gone. What has become of each process
+ * agrees. */
 static void sets_are(const fy_guard *guard, uint64_t up, uint64_t left, uint64_t destroyed,
                      uint64_t gone)
 {
@@ -201,8 +206,8 @@ static void targets_are(const fy_guard *guard, fy_key key, const char *value, ui
     SET(set, wanted);
 }
 
-/* Whom a kill would be about, and what has become of whom: emptied is destroyed and left, killed for good is gone, and a
- * process that is healed is neither. */
+/* Whom a kill would be about, and what has become of whom: emptied is destroyed and left, killed
+ * for good is gone, and a process that is healed is neither. */
 static void sets(void)
 {
     fy_guard guard = open_guard(SIX);
@@ -304,7 +309,8 @@ static void now_is(const fy_guard *guard, uint64_t wanted)
     EQUAL(seen.now, wanted);
 }
 
-/* A copy has the journal of its guard. What is done with one changes nothing of the other, and each is closed alone. */
+/* A copy has the journal of its guard. What is done with one changes nothing of the other, and each
+ * is closed alone. */
 static void copies(void)
 {
     fy_guard guard = open_guard(SIX), other = {&guard}, third = {&guard};
@@ -321,7 +327,8 @@ static void copies(void)
     EQUAL(other.at != guard.at, 1);
     same_journal(&guard, &other, 5);
     sets_are(&other, 0x3c, 0x3c, 0x03, 0x03);
-    /* The copy looks ahead: zone z1 is only rebooted. Nothing of it is in the guard, nor of what the guard does in the copy. */
+    /* The copy looks ahead: zone z1 is only rebooted. Nothing of it is in the guard, nor of what
+     * the guard does in the copy. */
     EQUAL(kill(&other, 1, FY_ZONE, "z1", FY_KILL_INSTANTLY, FY_REBOOT), FY_DONE);
     EQUAL(struck, FY_REBOOT);
     sets_are(&other, 0x30, 0x3c, 0x03, 0x03);
@@ -357,7 +364,8 @@ static void full_copies(void)
     fy_guard_close(&guard);
 }
 
-/* A guard that isn't opened is closed, whatever it was. One that is to be its own copy stays as it is. */
+/* A guard that isn't opened is closed, whatever it was. One that is to be its own copy stays as it
+ * is. */
 static void no_copies(void)
 {
     fy_guard guard = {0}, other = {&guard};
@@ -426,7 +434,8 @@ static void needed_is(const fy_guard *guard, uint32_t process, uint32_t wanted)
     EQUAL(record, wanted);
 }
 
-/* A record of processes 0 and 2 is acknowledged by the second word, and kept by the least of them that isn't destroyed. */
+/* A record of processes 0 and 2 is acknowledged by the second word, and kept by the least of them
+ * that isn't destroyed. */
 static void records(void)
 {
     fy_guard guard = open_guard(SIX);
@@ -492,8 +501,8 @@ static void errors(void)
     EQUAL(kill(&guard, 1, FY_PROCESS, "p0", FY_REBOOT, FY_KILL_INSTANTLY), FY_FLOOR);
     EQUAL(fy_guard_act(&guard, "", 0, buffer, sizeof buffer, &told), FY_LINE_SYNTAX);
     EQUAL(fy_guard_act(&guard, "{}", 2, buffer, sizeof buffer, &told), FY_LINE_SYNTAX);
-    const char *above =
-        "{\"by\":1,\"act\":{\"kill\":{\"floor\":\"Reboot\",\"key\":\"zoneid\",\"kind\":\"RebootProcess\",\"tear\":0,\"value\":\"z0\"}}}";
+    const char *above = "{\"by\":1,\"act\":{\"kill\":{\"floor\":\"Reboot\",\"key\":\"zoneid\","
+                        "\"kind\":\"RebootProcess\",\"tear\":0,\"value\":\"z0\"}}}";
     EQUAL(fy_guard_act(&guard, above, strlen(above), buffer, sizeof buffer, &told), FY_FLOOR);
     static char longest[65537], large[65537 + FY_MOST_REPLY];
     memset(longest, ' ', sizeof longest);
@@ -561,14 +570,15 @@ static void cluster_files(void)
          FY_PART_UNKNOWN, 0},
         {"journal_limit = 1\n" REST("Across(2,zoneid,One())", "z 1"), FY_CONFIG_NAME,
          FY_PART_PROCESS, 1},
-        {"journal_limit = 1\nprotect = [{process = \"p0\", kinds = [\"Reboot\"]}, {process = \"p9\", kinds = [\"Reboot\"]}]\n" REST(
-             "Across(2,zoneid,One())", "z1"),
+        {"journal_limit = 1\nprotect = [{process = \"p0\", kinds = [\"Reboot\"]}, "
+         "{process = \"p9\", kinds = [\"Reboot\"]}]\n" REST("Across(2,zoneid,One())", "z1"),
          FY_CONFIG_NAME, FY_PART_PROTECT, 1},
         {"journal_limit = 1\n" PROCESSES("Across(2,zoneid,One())", "z1") "actor = []\n",
          FY_CONFIG_LIMIT, FY_PART_ACTOR, 0},
         {"journal_limit = 1\n" PROCESSES(
              "Across(2,zoneid,One())",
-             "z1") "actor = [{role = \"fault\"}, {role = \"fault\", grants = [{kinds = [], key = \"zoneid\", value = \"-\"}]}]\n",
+             "z1") "actor = [{role = \"fault\"}, {role = \"fault\", grants = [{kinds = [], "
+                   "key = \"zoneid\", value = \"-\"}]}]\n",
          FY_CONFIG_NAME, FY_PART_ACTOR, 1},
         {"journal_limit = 1\n" REST("Across(2,zone,One())", "z1"), FY_CONFIG_POLICY,
          FY_PART_POLICIES, 0},

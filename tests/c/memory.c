@@ -1,5 +1,6 @@
-/* Each request for memory of each call refused in turn: the call answers FY_NO_MEMORY, and nothing changed; or it gets on
- * without, as a reader whose scan of a line had no memory, and does what it says. */
+/* Each request for memory of each call refused in turn: the call answers FY_NO_MEMORY, and nothing
+ * changed; or it gets on without, as a reader whose scan of a line had no memory, and does what it
+ * says. */
 #include "faultyard.h"
 #include "refuse.h"
 #include "told.h"
@@ -11,7 +12,8 @@ static const char *LINES[] = {
     "{ \"act\": {\"deliver\": {\"message\": 1}}, \"by\": 0 }",
     "{\"by\":0,\"act\":{\"sync\":{\"process\":0}}}",
     "{\"by\":4,\"act\":{\"give\":{\"actor\":3,\"kinds\":[\"Reboot\"],\"scope\":\"all\"}}}",
-    "{\"by\":1,\"act\":{\"kill\":{\"key\":\"zoneid\",\"value\":\"z1\",\"kind\":\"KillInstantly\",\"floor\":\"Reboot\",\"tear\":0}}}",
+    "{\"by\":1,\"act\":{\"kill\":{\"key\":\"zoneid\",\"value\":\"z1\",\"kind\":\"KillInstantly\","
+    "\"floor\":\"Reboot\",\"tear\":0}}}",
 };
 
 static char before[100000], after[100000];
@@ -120,8 +122,8 @@ static fy_status numbered(int which, fy_guard *guard, fy_reply *reply)
     }
 }
 
-/* Each request for memory of each of them refused in turn: it answers FY_NO_MEMORY, tells nothing, and nothing changed. There are
- * eight entries before, so that each needs room for its own. */
+/* Each request for memory of each of them refused in turn: it answers FY_NO_MEMORY, tells nothing,
+ * and nothing changed. There are eight entries before, so that each needs room for its own. */
 static void refuse_numbered(void)
 {
     static const fy_reply nothing;
@@ -209,8 +211,8 @@ static size_t asks(int which, size_t entries)
     return bytes;
 }
 
-/* What reset and audit ask for is the same however long the journal is, unlike a copy. Audit asks at once for at most twice the
- * bytes of its line. */
+/* What reset and audit ask for is the same however long the journal is, unlike a copy. Audit asks
+ * at once for at most twice the bytes of its line. */
 static void asked_for(void)
 {
     static const char payload[32000];

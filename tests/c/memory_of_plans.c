@@ -1,5 +1,6 @@
-/* Each request for memory of the calls of plans and checks refused in turn: the call answers FY_NO_MEMORY, and nothing is written
- * or read; or it gets on without, as a reader whose scan of a line had no memory, and does what it says. */
+/* Each request for memory of the calls of plans and checks refused in turn: the call answers
+ * FY_NO_MEMORY, and nothing is written or read; or it gets on without, as a reader whose scan of a
+ * line had no memory, and does what it says. */
 #include "faultyard.h"
 #include "refuse.h"
 #include "told.h"
@@ -62,16 +63,21 @@ static void plans(void)
 
 static const char *const LINES[] = {
     FY_AUDIT_HEADER,
-    "{\"act\":{\"form\":{\"members\":[0,2],\"policy\":0}},\"at\":0,\"by\":0,\"reply\":{\"formed\":0}}\n",
-    "{\"act\":{\"begin\":{\"payload\":\"6869\",\"team\":0}},\"at\":1,\"by\":0,\"reply\":{\"begun\":{\"first\":0,\"record\":0}}}\n",
+    "{\"act\":{\"form\":{\"members\":[0,2],\"policy\":0}},\"at\":0,\"by\":0,"
+    "\"reply\":{\"formed\":0}}\n",
+    "{\"act\":{\"begin\":{\"payload\":\"6869\",\"team\":0}},\"at\":1,\"by\":0,"
+    "\"reply\":{\"begun\":{\"first\":0,\"record\":0}}}\n",
     "{\"act\":{\"deliver\":{\"message\":0}},\"at\":2,\"by\":0,\"reply\":\"stored\"}\n",
-    "{\"act\":{\"sync\":{\"process\":0}},\"at\":3,\"by\":0,\"reply\":{\"synced\":{\"count\":1,\"first\":2}}}\n",
-    "{\"act\":{\"sync\":{\"process\":0}},\"at\":4,\"by\":0,\"reply\":{\"synced\":{\"count\":1,\"first\":2}}}\n",
+    "{\"act\":{\"sync\":{\"process\":0}},\"at\":3,\"by\":0,"
+    "\"reply\":{\"synced\":{\"count\":1,\"first\":2}}}\n",
+    "{\"act\":{\"sync\":{\"process\":0}},\"at\":4,\"by\":0,"
+    "\"reply\":{\"synced\":{\"count\":1,\"first\":2}}}\n",
 };
 
 enum { LINE_COUNT = sizeof LINES / sizeof *LINES };
 
-/* The lines of an audit whose last entry is bad, up to one for which a request is refused; then that line and the rest. */
+/* The lines of an audit whose last entry is bad, up to one for which a request is refused; then
+ * that line and the rest. */
 static void checks(void)
 {
     long held = live, refused = 0, unread = 0;

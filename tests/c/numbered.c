@@ -13,13 +13,13 @@ static void tells(int line, fy_reply wanted)
     if (memcmp(&reply, &wanted, sizeof reply) == 0)
         return;
     wrong++;
-    fprintf(
-        stderr,
-        "line %d: refusal %u rule %u named %llu team %u record %u message %llu synced %llu now %llu marked %u acked %u\n",
-        line, (unsigned)reply.refusal, (unsigned)reply.rule, (unsigned long long)reply.named,
-        (unsigned)reply.team, (unsigned)reply.record, (unsigned long long)reply.message,
-        (unsigned long long)reply.synced, (unsigned long long)reply.now, (unsigned)reply.marked,
-        (unsigned)reply.acked);
+    fprintf(stderr,
+            "line %d: refusal %u rule %u named %llu team %u record %u message %llu synced %llu"
+            " now %llu marked %u acked %u\n",
+            line, (unsigned)reply.refusal, (unsigned)reply.rule, (unsigned long long)reply.named,
+            (unsigned)reply.team, (unsigned)reply.record, (unsigned long long)reply.message,
+            (unsigned long long)reply.synced, (unsigned long long)reply.now, (unsigned)reply.marked,
+            (unsigned)reply.acked);
 }
 
 #define ANSWERS(wanted_status, call, ...)         \
@@ -29,7 +29,8 @@ static void tells(int line, fy_reply wanted)
         tells(__LINE__, (fy_reply){__VA_ARGS__}); \
     } while (0)
 
-/* The act is done, and tells these fields; it is refused; or nothing changed, since the status says so. */
+/* The act is done, and tells these fields; it is refused; or nothing changed, since the status says
+ * so. */
 #define DONE(call, ...) ANSWERS(FY_DONE, call, __VA_ARGS__)
 #define REFUSED(why, call) ANSWERS(FY_REFUSED, call, .refusal = why)
 #define REFUSED_BY(why, which, call) ANSWERS(FY_REFUSED, call, .refusal = why, .named = which)
@@ -58,8 +59,8 @@ static void entered(const fy_guard *guard, const char *act, const char *answer)
     EQUAL(told > strlen(wanted) && strcmp(line + told - strlen(wanted), wanted) == 0, 1);
 }
 
-/* A record of processes 0 and 2, from the form of its team until it is acknowledged. Each act stands in the journal as its line
- * would. */
+/* A record of processes 0 and 2, from the form of its team until it is acknowledged. Each act
+ * stands in the journal as its line would. */
 static void stored(void)
 {
     fy_guard guard = open_guard(SIX);
@@ -171,10 +172,10 @@ static void rights(void)
     /* A grant of a zone covers the zone alone, and the kinds that it has. */
     uint32_t grant = FY_KINDS_REBOOT | FY_KINDS_CLOG;
     DONE(fy_guard_give(&guard, OPERATOR, GRANTLESS, grant, FY_ZONE, "z1", &reply), 0);
-    entered(
-        &guard,
-        "{\"give\":{\"actor\":3,\"kinds\":[\"Reboot\",\"Clog\"],\"scope\":{\"key\":\"zoneid\",\"value\":\"z1\"}}}",
-        "\"done\"");
+    entered(&guard,
+            "{\"give\":{\"actor\":3,\"kinds\":[\"Reboot\",\"Clog\"],\"scope\":{\"key\":\"zoneid\","
+            "\"value\":\"z1\"}}}",
+            "\"done\"");
     DONE(fy_guard_clog(&guard, GRANTLESS, FY_ZONE, "z1", 1, &reply), 0);
     DONE(fy_guard_clog(&guard, GRANTLESS, FY_ZONE, "z2", 1, &reply), .rule = FY_NO_GRANT,
          .named = 4);
@@ -291,7 +292,8 @@ static void limits(void)
     for (int grant = 0; grant < GRANTS; grant++)
         DONE(fy_guard_give(&guard, 1, 0, FY_KINDS_ALL, FY_PROCESS, "p0", &reply), 0);
     REFUSED(FY_FULL, fy_guard_give(&guard, 1, 0, FY_KINDS_ALL, FY_PROCESS, "p0", &reply));
-    /* Process 0 has record 0 synced and record 1 not. Messages 1, 2 and 4 are in flight, and then as many as there may be. */
+    /* Process 0 has record 0 synced and record 1 not. Messages 1, 2 and 4 are in flight, and then
+     * as many as there may be. */
     DONE(fy_guard_begin(&guard, STORAGE, 1, "a", 1, &reply), .record = 0, .message = 0);
     DONE(fy_guard_deliver(&guard, STORAGE, 0, &reply), 0);
     DONE(fy_guard_sync(&guard, STORAGE, 0, &reply), .synced = 1, .message = 2);
@@ -314,7 +316,8 @@ static void limits(void)
     fy_guard_close(&guard);
 }
 
-/* Arguments that are none, each before what is behind it in the order of statuses. Nothing changes. */
+/* Arguments that are none, each before what is behind it in the order of statuses. Nothing
+ * changes. */
 static void arguments(fy_guard *guard)
 {
     static uint32_t members[FY_MOST_MEMBERS + 1];

@@ -1,5 +1,6 @@
-/* Random acts of every kind, each made by its call by numbers: their lines go to the file of the first word, and the journal to that
- * of the second. What each call tells is the reply of its entry. */
+/* Random acts of every kind, each made by its call by numbers: their lines go to the file of the
+ * first word, and the journal to that of the second. What each call tells is the reply of its
+ * entry. */
 #include "faultyard.h"
 #include "told.h"
 
@@ -105,10 +106,10 @@ static void strike(uint32_t by, uint32_t which)
     char value[16];
     sprintf(value, "%c%u", LETTERS[key], (unsigned)below(7));
     if (which == 0) {
-        sprintf(
-            act,
-            "{\"kill\":{\"floor\":\"%s\",\"key\":\"%s\",\"kind\":\"%s\",\"tear\":5,\"value\":\"%s\"}}",
-            KINDS[floor], KEYS[key], KINDS[kind], value);
+        sprintf(act,
+                "{\"kill\":{\"floor\":\"%s\",\"key\":\"%s\",\"kind\":\"%s\",\"tear\":5,"
+                "\"value\":\"%s\"}}",
+                KINDS[floor], KEYS[key], KINDS[kind], value);
         verdict_told(fy_guard_kill(&guard, by, (fy_key)(key + 1), value, (fy_kind)(kind + 1),
                                    (fy_kind)(floor + 1), 5, &struck, &rule, &named));
     } else if (which == 1) {

@@ -1,12 +1,12 @@
-/* Words of a seed, and the plans that are drawn from them, by the words of docs/FORMATS.md. plans.py compares both with a ChaCha
- * that isn't the library's. */
+/* Words of a seed, and the plans that are drawn from them, by the words of docs/FORMATS.md.
+ * plans.py compares both with a ChaCha that isn't the library's. */
 #include "faultyard.h"
 #include "told.h"
 
 enum { PROCESSES = 6, WORDS = 2 * PROCESSES, ROOM = 20 };
 
-/* The first words of the published vectors: where key and nonce are zero, where the first byte of the key is 1, and where the
- * first byte of the nonce is 1. */
+/* The first words of the published vectors: where key and nonce are zero, where the first byte of
+ * the key is 1, and where the first byte of the nonce is 1. */
 static void published(void)
 {
     static const struct {
@@ -33,7 +33,8 @@ static void published(void)
     EQUAL(fy_guard_words(0, 0, NULL, 1), FY_CLOSED);
 }
 
-/* From the last place down to the second, each is swapped with the place that the next word gives. */
+/* From the last place down to the second, each is swapped with the place that the next word
+ * gives. */
 static void shuffle(uint32_t *list, size_t length, const uint32_t *words)
 {
     for (size_t last = length; last-- > 1; words++) {
@@ -81,7 +82,8 @@ static void rest_stays(const fy_order *orders, size_t told)
         EQUAL(memcmp(&orders[at], &stays, sizeof stays), 0);
 }
 
-/* Processes beside an odd word are clogged in their order, and freed in an order of the words behind. */
+/* Processes beside an odd word are clogged in their order, and freed in an order of the words
+ * behind. */
 static size_t swizzle_is(const fy_guard *guard, uint64_t seed, uint64_t stream, uint64_t ticks)
 {
     uint32_t words[WORDS], clogs[PROCESSES], frees[PROCESSES];
@@ -150,7 +152,8 @@ static void plans(void)
     fy_guard_close(&guard);
 }
 
-/* The first round of a fault actor is a plan of the library, from the stream that its first turn draws. */
+/* The first round of a fault actor is a plan of the library, from the stream that its first turn
+ * draws. */
 static void rounds(void)
 {
     fy_guard guard = open_guard(SIX);

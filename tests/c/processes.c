@@ -1,4 +1,5 @@
-/* Kills and judgements by a process's number, beside the same by its name: the same answers and the same journal. */
+/* Kills and judgements by a process's number, beside the same by its name: the same answers and the
+ * same journal. */
 #include "faultyard.h"
 #include "told.h"
 
@@ -36,7 +37,8 @@ static asked drawn(void)
     return order;
 }
 
-/* Gives an order to one guard by name and to another by number. Both judge it alike before, and answer it alike. */
+/* Gives an order to one guard by name and to another by number. Both judge it alike before, and
+ * answer it alike. */
 static fy_status both(fy_guard *by_name, fy_guard *by_number, asked order)
 {
     uint32_t struck_by_name = 77, rule_by_name = 77;
@@ -133,7 +135,8 @@ static void random_orders(void)
     fy_guard_close(&by_number);
 }
 
-/* The status of a judgement and of a kill, which are the same; neither tells anything or enters anything. */
+/* The status of a judgement and of a kill, which are the same; neither tells anything or enters
+ * anything. */
 static void refused(fy_guard *guard, uint32_t process, int kind, int floor, fy_status wanted)
 {
     size_t count = 0, after = 0;

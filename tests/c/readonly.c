@@ -1,5 +1,5 @@
-/* Calls that take a `const fy_guard *` write neither the struct nor what it points to: they answer while all of that can't be
- * written. A kill then is no such call: its process dies of it. */
+/* Calls that take a `const fy_guard *` write neither the struct nor what it points to: they answer
+ * while all of that can't be written. A kill then is no such call: its process dies of it. */
 #define _GNU_SOURCE
 #include "faultyard.h"
 #include "told.h"
@@ -10,7 +10,8 @@
 
 enum { ARENA = 1 << 24, FRONT = 16 };
 
-/* What is asked for goes to the front arena until it is frozen, and then to the back one. Nothing is taken back. */
+/* What is asked for goes to the front arena until it is frozen, and then to the back one. Nothing
+ * is taken back. */
 static char *arenas[2];
 static size_t used[2];
 static int now;

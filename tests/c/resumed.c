@@ -1,5 +1,5 @@
-/* Guards that are opened where an audit ends: on worked audits and on each front of a guard's journal; and with each request for
- * memory refused in turn. */
+/* Guards that are opened where an audit ends: on worked audits and on each front of a guard's
+ * journal; and with each request for memory refused in turn. */
 #include "faultyard.h"
 #include "refuse.h"
 #include "told.h"
@@ -7,9 +7,10 @@
 #define FIRST_HEADER "{\"audit\":1}\n"
 #define TICK(at, now) \
     "{\"act\":{\"tick\":{\"ticks\":1}},\"at\":" at ",\"by\":0,\"reply\":{\"time\":" now "}}\n"
-#define KILL(value, at, verdict)                                                                         \
-    "{\"act\":{\"kill\":{\"floor\":\"Reboot\",\"key\":\"zoneid\",\"kind\":\"KillInstantly\",\"tear\":0," \
-    "\"value\":\"" value "\"}},\"at\":" at ",\"by\":1,\"reply\":{\"verdict\":" verdict "}}\n"
+#define KILL(value, at, verdict)                                                                  \
+    "{\"act\":{\"kill\":{\"floor\":\"Reboot\",\"key\":\"zoneid\",\"kind\":\"KillInstantly\","     \
+    "\"tear\":0,\"value\":\"" value "\"}},\"at\":" at ",\"by\":1,\"reply\":{\"verdict\":" verdict \
+    "}}\n"
 #define KILLED KILL("z0", "0", "{\"rule\":null,\"struck\":\"KillInstantly\"}")
 #define REBOOTED KILL("z1", "1", "{\"rule\":[\"TooManyDestroyed\",0],\"struck\":\"Reboot\"}")
 /* What would destroy the last copy: no rule allows it. */
@@ -35,7 +36,8 @@ static void refused(const char *config, const char *audit, fy_status status, uin
     fy_guard_close(&guard);
 }
 
-/* The audit that is worked out in docs/FORMATS.md: behind its first entry the second is answered so. */
+/* The audit that is worked out in docs/FORMATS.md: behind its first entry the second is answered
+ * so. */
 static void worked(void)
 {
     static const char audit[] = FY_AUDIT_HEADER KILLED;
@@ -109,7 +111,8 @@ static void closed(void)
     EQUAL(first_bad, 77);
 }
 
-/* Acts of each kind that leaves something behind; each front of their journal is gone on from, and the rest is made. */
+/* Acts of each kind that leaves something behind; each front of their journal is gone on from, and
+ * the rest is made. */
 static const char *const STORY[] = {
     "{\"by\":0,\"act\":{\"form\":{\"members\":[0,2],\"policy\":0}}}",
     "{\"by\":0,\"act\":{\"begin\":{\"payload\":\"6869\",\"team\":0}}}",
@@ -119,14 +122,16 @@ static const char *const STORY[] = {
     "{\"by\":0,\"act\":{\"sync\":{\"process\":2}}}",
     "{\"by\":0,\"act\":{\"deliver\":{\"message\":2}}}",
     "{\"by\":0,\"act\":{\"deliver\":{\"message\":3}}}",
-    "{\"by\":1,\"act\":{\"kill\":{\"key\":\"zoneid\",\"value\":\"z0\",\"kind\":\"RebootAndDelete\",\"floor\":\"Reboot\",\"tear\":0}}}",
+    "{\"by\":1,\"act\":{\"kill\":{\"key\":\"zoneid\",\"value\":\"z0\","
+    "\"kind\":\"RebootAndDelete\",\"floor\":\"Reboot\",\"tear\":0}}}",
     "{\"by\":0,\"act\":{\"up\":{\"process\":0}}}",
     "{\"by\":0,\"act\":{\"heal\":{\"process\":0}}}",
     "{\"by\":1,\"act\":{\"clog\":{\"key\":\"zoneid\",\"value\":\"z2\",\"ticks\":3}}}",
     "{\"by\":0,\"act\":{\"tick\":{\"ticks\":2}}}",
     "{\"by\":4,\"act\":{\"give\":{\"actor\":3,\"kinds\":[\"Reboot\"],\"scope\":\"all\"}}}",
     "{\"by\":4,\"act\":{\"protect\":{\"process\":4,\"kinds\":[\"Reboot\"]}}}",
-    "{\"by\":1,\"act\":{\"kill\":{\"key\":\"zoneid\",\"value\":\"z1\",\"kind\":\"KillInstantly\",\"floor\":\"Reboot\",\"tear\":0}}}",
+    "{\"by\":1,\"act\":{\"kill\":{\"key\":\"zoneid\",\"value\":\"z1\",\"kind\":\"KillInstantly\","
+    "\"floor\":\"Reboot\",\"tear\":0}}}",
 };
 
 enum { LINES = sizeof STORY / sizeof *STORY };

@@ -1,5 +1,5 @@
-/* Two guards in two threads, each as if it were alone; and one guard that eight threads take in turns, whose audit is written to
- * the file of the word. */
+/* Two guards in two threads, each as if it were alone; and one guard that eight threads take in
+ * turns, whose audit is written to the file of the word. */
 #include "faultyard.h"
 #include "told.h"
 #include <pthread.h>
@@ -39,7 +39,8 @@ static void *play(void *given)
     return given;
 }
 
-/* A guard that one thread opened and another closes, and the mutex that those take who make a call with it. */
+/* A guard that one thread opened and another closes, and the mutex that those take who make a call
+ * with it. */
 static fy_guard shared;
 static pthread_mutex_t turn = PTHREAD_MUTEX_INITIALIZER;
 
@@ -63,8 +64,8 @@ static void *share(void *given)
         if (i % 2 == 0)
             snprintf(
                 line, sizeof line,
-                "{\"by\":1,\"act\":{\"kill\":{\"floor\":\"RebootProcess\",\"key\":\"processid\",\"kind\":"
-                "\"RebootAndDelete\",\"tear\":%u,\"value\":\"p%u\"}}}",
+                "{\"by\":1,\"act\":{\"kill\":{\"floor\":\"RebootProcess\",\"key\":\"processid\","
+                "\"kind\":\"RebootAndDelete\",\"tear\":%u,\"value\":\"p%u\"}}}",
                 (unsigned)here->number, (unsigned)process);
         else
             snprintf(line, sizeof line, "{\"by\":0,\"act\":{\"up\":{\"process\":%u}}}",

@@ -35,28 +35,30 @@ static uint64_t named;
     "  {processid = \"p1\", machineid = \"m1\", zoneid = \"" zone "\"}]\n"
 
 /* The same, with two actors. */
-#define REST(policy, zone)  \
-    PROCESSES(policy, zone) \
-    "actor = [{role = \"storage\"}, {role = \"fault\", grants = [{kinds = [\"Reboot\", \"KillInstantly\"]}]}]\n"
+#define REST(policy, zone)            \
+    PROCESSES(policy, zone)           \
+    "actor = [{role = \"storage\"}, " \
+    "{role = \"fault\", grants = [{kinds = [\"Reboot\", \"KillInstantly\"]}]}]\n"
 
 /* examples/c6.toml: two copies in two of three zones, with a journal of so many entries. */
-#define SIX_WITH(limit)                                                                                                               \
-    "journal_limit = " limit "\n"                                                                                                     \
-    "policies = [\"Across(2,zoneid,One())\"]\n"                                                                                       \
-    "process = [\n"                                                                                                                   \
-    "  {processid = \"p0\", machineid = \"m0\", zoneid = \"z0\", dcid = \"d0\"},\n"                                                   \
-    "  {processid = \"p1\", machineid = \"m1\", zoneid = \"z0\", dcid = \"d0\"},\n"                                                   \
-    "  {processid = \"p2\", machineid = \"m2\", zoneid = \"z1\", dcid = \"d0\"},\n"                                                   \
-    "  {processid = \"p3\", machineid = \"m3\", zoneid = \"z1\", dcid = \"d0\"},\n"                                                   \
-    "  {processid = \"p4\", machineid = \"m4\", zoneid = \"z2\", dcid = \"d0\"},\n"                                                   \
-    "  {processid = \"p5\", machineid = \"m5\", zoneid = \"z2\", dcid = \"d0\"},\n"                                                   \
-    "]\n"                                                                                                                             \
-    "actor = [\n"                                                                                                                     \
-    "  {role = \"storage\"},\n"                                                                                                       \
-    "  {role = \"fault\", grants = [{kinds = [\"RebootProcess\", \"Reboot\", \"RebootAndDelete\", \"KillInstantly\", \"Clog\"]}]},\n" \
-    "  {role = \"fault\", grants = [{kinds = [\"KillInstantly\", \"Reboot\"]}]},\n"                                                   \
-    "  {role = \"fault\"},\n"                                                                                                         \
-    "  {role = \"operator\"},\n"                                                                                                      \
+#define SIX_WITH(limit)                                                             \
+    "journal_limit = " limit "\n"                                                   \
+    "policies = [\"Across(2,zoneid,One())\"]\n"                                     \
+    "process = [\n"                                                                 \
+    "  {processid = \"p0\", machineid = \"m0\", zoneid = \"z0\", dcid = \"d0\"},\n" \
+    "  {processid = \"p1\", machineid = \"m1\", zoneid = \"z0\", dcid = \"d0\"},\n" \
+    "  {processid = \"p2\", machineid = \"m2\", zoneid = \"z1\", dcid = \"d0\"},\n" \
+    "  {processid = \"p3\", machineid = \"m3\", zoneid = \"z1\", dcid = \"d0\"},\n" \
+    "  {processid = \"p4\", machineid = \"m4\", zoneid = \"z2\", dcid = \"d0\"},\n" \
+    "  {processid = \"p5\", machineid = \"m5\", zoneid = \"z2\", dcid = \"d0\"},\n" \
+    "]\n"                                                                           \
+    "actor = [\n"                                                                   \
+    "  {role = \"storage\"},\n"                                                     \
+    "  {role = \"fault\", grants = [{kinds = [\"RebootProcess\", "                  \
+    "\"Reboot\", \"RebootAndDelete\", \"KillInstantly\", \"Clog\"]}]},\n"           \
+    "  {role = \"fault\", grants = [{kinds = [\"KillInstantly\", \"Reboot\"]}]},\n" \
+    "  {role = \"fault\"},\n"                                                       \
+    "  {role = \"operator\"},\n"                                                    \
     "]\n"
 
 static const char *const SIX = SIX_WITH("1000");

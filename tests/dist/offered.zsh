@@ -3,10 +3,13 @@
 #   zsh -f tests/dist/offered.zsh FOLDER_OF_COMPLETIONS LINE
 zmodload zsh/zpty
 zpty shell zsh -f -i
-zpty -w shell "PS1= PROMPT2= ; unsetopt zle_bracketed_paste; fpath=(${(q)1} \$fpath); autoload -U compinit; compinit -u -D"
+start="fpath=(${(q)1} \$fpath); autoload -U compinit; compinit -u -D"
+zpty -w shell "PS1= PROMPT2= ; unsetopt zle_bracketed_paste; $start"
 # compadd is where each completion hands over its words.
-zpty -w shell 'compadd () { local -a m; builtin compadd -A m "$@"; (( ${#m} )) && print -rl -- "OFFER:"${^m}; return 0 }'
-zpty -w shell 'offer () { _main_complete; print -r -- "END OF OFFERS"; exit 0 }; zle -C offer complete-word offer; bindkey "^I" offer'
+told='local -a m; builtin compadd -A m "$@"; (( ${#m} )) && print -rl -- "OFFER:"${^m}; return 0'
+zpty -w shell "compadd () { $told }"
+offered='_main_complete; print -r -- "END OF OFFERS"; exit 0'
+zpty -w shell "offer () { $offered }; zle -C offer complete-word offer; bindkey \"^I\" offer"
 zpty -w shell 'print RE""ADY'
 zpty -r shell out '*READY*'
 zpty -w -n shell "$2"$'\t'

@@ -1,5 +1,5 @@
-// Preloaded into a program: counts its allocations, and makes those from the number REFUSED_FIRST up to
-// REFUSED_LAST fail. Where the variables are missing, none fails.
+// Preloaded into a program: counts its allocations, and makes those from the number REFUSED_FIRST
+// up to REFUSED_LAST fail. Where the variables are missing, none fails.
 //
 // The count stands in the file that REFUSED_COUNT names, eight bytes in the machine's order. So the
 // process that started the program can tell whether the program came to an allocation that fails.

@@ -188,7 +188,8 @@ class Link:
         return None if told == "none" else told
 
     def records(self) -> Records:
-        return dict(pair for line in self.ask("all")[:-1] if len(pair := line.split()) == 2)  # type: ignore[misc]
+        told = (line.split() for line in self.ask("all")[:-1])
+        return {it[0]: it[1] for it in told if len(it) == 2}
 
 
 def able() -> list[int]:

@@ -288,7 +288,10 @@ class Cases(unittest.TestCase):
 
     def test_none_of_those_who_were_never_destroyed_has_it(self):
         case = self.case(Left({}, disks=self.disks()), losses=[(2, 6.0, 18), (3, 7.0, 20)])
-        fault = "k0 k1 k4 could hold it and were never destroyed since, and none has it: the store lost it"
+        fault = (
+            "k0 k1 k4 could hold it and were never destroyed since, and none has it:"
+            " the store lost it"
+        )
         self.assertEqual(case.fault(), fault)
 
     def test_what_was_destroyed_before_is_not_blamed(self):
@@ -352,7 +355,10 @@ class Cases(unittest.TestCase):
         losses, heals = [(0, 6.0, 7), (1, 8.0, 11)], [(0, 7.0, 9)]
         case = self.case(Left({}, disks=self.disks()), losses, heals, able=(0, 1))
         self.assertEqual(case.never, set())
-        fault = "of those who could hold it k0 was healed by entry 9: `whole` was wrong, or the store lost it"
+        fault = (
+            "of those who could hold it k0 was healed by entry 9: `whole` was wrong,"
+            " or the store lost it"
+        )
         self.assertEqual(case.fault(), fault)
 
     def test_a_heal_does_not_matter_where_all_were_down_at_once(self):
@@ -368,7 +374,8 @@ class Cases(unittest.TestCase):
         left = Left({KEY: VALUE}, {0: {KEY: VALUE}, 2: {KEY: None}})
         self.assertEqual(
             self.case(left).fault(),
-            "k2 lacks it by `check`, and k0 and `read` has it: the store lost it there, or `check` is wrong",
+            "k2 lacks it by `check`, and k0 and `read` has it: the store lost it there,"
+            " or `check` is wrong",
         )
         case = self.case(left, losses=[(2, 6.0, 7)], heals=[(2, 7.0, 9)])
         self.assertTrue(

@@ -68,7 +68,10 @@ def too_long() -> Iterator[str]:
             yield f"{page} has {found} words by hand, of {most}"
     for book, its in BOOKS.items():
         if (found := sum(counts(book).values())) > its[1]:
-            yield f"{book} has {found} words by hand, of {its[1]}: tests/pages/lengths.py has each page"
+            yield (
+                f"{book} has {found} words by hand, of {its[1]}:"
+                " tests/pages/lengths.py has each page"
+            )
 
 
 class Lengths(unittest.TestCase):

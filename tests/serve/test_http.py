@@ -201,10 +201,12 @@ class Doors(Case):
 
 WORDS = (
     b"GET POST HEAD PUT PATCH DELETE OPTIONS TRACE CONNECT / /v1/acts /v1/status /v1/audit"
-    b" /v1/events /v1/targets /v1/bears /picture.svg /metrics /healthz /../etc/passwd //v1//acts HTTP/1.1"
+    b" /v1/events /v1/targets /v1/bears /picture.svg /metrics /healthz /../etc/passwd //v1//acts"
+    b" HTTP/1.1"
     b" HTTP/1.0 HTTP/9.9 Host: Content-Length: Transfer-Encoding: chunked Content-Type: Expect:"
     b" 100-continue Connection: close Upgrade: Authorization: Bearer Idempotency-Key:"
-    b" Last-Event-ID: application/json 127.0.0.1 0 1 -1 99999999999999999999 \r\n \r\n\r\n \n \0 \xff {} [] null"
+    b" Last-Event-ID: application/json 127.0.0.1 0 1 -1 99999999999999999999 \r\n \r\n\r\n \n \0"
+    b" \xff {} [] null"
     b' {"by":1,"act": {"kill": "once" "x" ?from= ?key=processid&value=p0'
 ).split(b" ")
 

@@ -15,7 +15,8 @@ function over(top, below) {
 
 function luminance(its) {
   const parts = its.slice(0, 3).map(it => it / 255)
-  const [red, green, blue] = parts.map(it => it <= 0.04045 ? it / 12.92 : ((it + 0.055) / 1.055) ** 2.4)
+  const linear = it => it <= 0.04045 ? it / 12.92 : ((it + 0.055) / 1.055) ** 2.4
+  const [red, green, blue] = parts.map(linear)
   return 0.2126 * red + 0.7152 * green + 0.0722 * blue
 }
 

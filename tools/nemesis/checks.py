@@ -246,7 +246,8 @@ def fitting(start: float, heal: float, pauses: Sequence[float], seconds: float) 
     pause, least = round(sum(pauses) / len(pauses), 1), round(max(start, heal), 1)
     if pause < least:
         longer = "start" if heal < start else "heal"
-        yield f"--pauses are {pause} s on average, shorter than a {longer}: orders would be lessened"
+        too_short = f"{pause} s on average, shorter than a {longer}"
+        yield f"--pauses are {too_short}: orders would be lessened"
         pauses = [math.ceil(start), math.ceil(least), math.ceil(2 * least)]
     if seconds < HEALS * heal:
         yield f"--seconds {seconds:g} leaves no time for {HEALS} heals"

@@ -40,8 +40,9 @@ var faults = map[error]book.Fault{
 	faultyard.ErrJournalFull: book.JournalFull,
 }
 
-// Act makes an act. A line that the library refuses is a book.Fault. The library takes it without its
-// line feed: with it the line is a byte longer, and is read as a JSON value, which takes longer.
+// Act makes an act. A line that the library refuses is a book.Fault. The library takes it without
+// its line feed: with it the line is a byte longer, and is read as a JSON value, which takes
+// longer.
 func (its library) Act(line []byte) ([]byte, error) {
 	answer, err := its.Guard.Act(bytes.TrimSuffix(line, []byte("\n")))
 	if err == nil {
@@ -106,8 +107,8 @@ func (its places) State(process int) cluster.State {
 	return cluster.State(state)
 }
 
-// ofAudit is why no guard goes on with an audit, in the words of `faultyard check`: a faulty line is
-// told before a bad entry, wherever it stands.
+// ofAudit is why no guard goes on with an audit, in the words of `faultyard check`: a faulty line
+// is told before a bad entry, wherever it stands.
 func ofAudit(config, audit []byte, err error) error {
 	_, isFault := auditFaults[err]
 	if !isFault && err != faultyard.ErrAuditTooLong && !errors.Is(err, faultyard.ErrRefuted) {

@@ -234,8 +234,8 @@ impl Guard {
         Verdict::of(struck, rule, named)
     }
 
-    /// What [`kill_process`](Guard::kill_process) would answer now to the same order, if the journal
-    /// had room. It enters nothing.
+    /// What [`kill_process`](Guard::kill_process) would answer now to the same order, if the
+    /// journal had room. It enters nothing.
     ///
     /// # Errors
     ///

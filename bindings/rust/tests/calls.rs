@@ -429,7 +429,10 @@ fn a_guard_goes_on_where_an_audit_ends() {
     );
     assert_eq!(other.audit().unwrap(), guard.audit().unwrap());
     let tick = |at: usize, now| {
-        format!("{{\"act\":{{\"tick\":{{\"ticks\":1}}}},\"at\":{at},\"by\":0,\"reply\":{{\"time\":{now}}}}}\n")
+        format!(
+            "{{\"act\":{{\"tick\":{{\"ticks\":1}}}},\"at\":{at},\"by\":0,\
+             \"reply\":{{\"time\":{now}}}}}\n"
+        )
     };
     let after = |audit: &str| Guard::open_after(CONFIG, audit).err();
     let bad = format!("{before}{}", tick(ACKED.len(), 9));

@@ -943,7 +943,8 @@ static void plans()
     THROWS(Closed, (void)asked.attrition_plan(0, 1));
 }
 
-/* The orders of a simulation, by its rules: processes in turn, and a first round of an attrition. */
+/* The orders of a simulation, by its rules: processes in turn, and a first round of an
+ * attrition. */
 static void simulated_plans()
 {
     Guard guard(SIX);

@@ -17,6 +17,7 @@ import java.util.concurrent.ExecutorService;
 import java.util.concurrent.Executors;
 import java.util.concurrent.Future;
 import java.util.stream.Collectors;
+import java.util.stream.IntStream;
 
 /**
  * Tests of Guard.java, which test_java.py runs.
@@ -24,7 +25,7 @@ import java.util.stream.Collectors;
  * <pre>
  * GuardTest play PROGRAM CONFIG            makes each act of standard input, and writes the audit
  * GuardTest states PROGRAM CONFIG          makes them, and writes what each leaves of the processes
- * GuardTest killable PROGRAM CONFIG        makes them, and writes who may be killed after every 20th
+ * GuardTest killable PROGRAM CONFIG        makes them, and writes who may be killed after each 20th
  * GuardTest places PROGRAM CONFIG..        writes the processes of each key and value that is read
  * GuardTest threads PROGRAM CONFIG         eight threads share a guard; writes the audit
  * GuardTest cases PROGRAM CONFIG FOLDER    each error once; writes how many cases passed
@@ -74,7 +75,8 @@ final class GuardTest {
 
     /** Each line has an actor, the name of an act, and its members in the order of their names. */
     private static void play(String program, Path config, After after) throws IOException {
-        BufferedReader lines = new BufferedReader(new InputStreamReader(System.in, StandardCharsets.US_ASCII));
+        BufferedReader lines =
+            new BufferedReader(new InputStreamReader(System.in, StandardCharsets.US_ASCII));
         try (Guard guard = new Guard(config, program)) {
             for (String line = lines.readLine(); line != null; line = lines.readLine()) {
                 String[] words = line.split("\t", -1);
@@ -92,11 +94,13 @@ final class GuardTest {
     private static void writeStates(Guard guard, int at) {
         List<String> states = new ArrayList<>();
         for (int process = 0; process < 8; process++) {
-            states.add(guard.state(process).map(Guard.State::toString).orElse("none") + (guard.isDestroyed(process) ? "!" : ""));
+            String state = guard.state(process).map(Guard.State::toString).orElse("none");
+            states.add(state + (guard.isDestroyed(process) ? "!" : ""));
         }
         Guard.Key key = Guard.Key.values()[at % Guard.Key.values().length];
         String value = "pmzhd".charAt(key.ordinal()) + "" + at / 5 % 7;
-        System.out.println(states + " " + guard.left() + " " + guard.destroyed() + " " + guard.gone() + " " + guard.upSet()
+        System.out.println(states + " " + guard.left() + " " + guard.destroyed() + " "
+            + guard.gone() + " " + guard.upSet()
             + " " + key.word + " " + value + " " + guard.targets(key, value));
     }
 
@@ -106,9 +110,13 @@ final class GuardTest {
         }
     }
 
-    /** Each file has a block: how many processes there are, and a line for each value of standard input. */
+    /**
+     * Each file has a block: how many processes there are, and a line for each value of standard
+     * input.
+     */
     private static void places(String program, List<String> configs) throws IOException {
-        BufferedReader lines = new BufferedReader(new InputStreamReader(System.in, StandardCharsets.US_ASCII));
+        BufferedReader lines =
+            new BufferedReader(new InputStreamReader(System.in, StandardCharsets.US_ASCII));
         List<String> asked = lines.lines().collect(Collectors.toList());
         for (String config : configs) {
             try (Guard guard = new Guard(Path.of(config), program)) {
@@ -125,7 +133,8 @@ final class GuardTest {
     private static void make(Guard guard, int by, String[] words) {
         switch (words[1]) {
             case "kill":
-                guard.kill(by, key(words[3]), words[6], kind(words[4]), kind(words[2]), unsigned(words[5]));
+                guard.kill(by, key(words[3]), words[6], kind(words[4]), kind(words[2]),
+                    unsigned(words[5]));
                 break;
             case "clog":
                 guard.clog(by, key(words[2]), words[4], unsigned(words[3]));
@@ -134,7 +143,9 @@ final class GuardTest {
                 guard.unclog(by, key(words[2]), words[3]);
                 break;
             case "form":
-                guard.form(by, split(words[2]).stream().map(Integer::valueOf).collect(Collectors.toList()), whole(words[3]));
+                guard.form(by,
+                    split(words[2]).stream().map(Integer::valueOf).collect(Collectors.toList()),
+                    whole(words[3]));
                 break;
             case "begin":
                 guard.begin(by, whole(words[3]), bytes(words[2]));
@@ -196,11 +207,17 @@ final class GuardTest {
     }
 
     private static Guard.Key key(String word) {
-        return Arrays.stream(Guard.Key.values()).filter(it -> it.word.equals(word)).findFirst().orElseThrow();
+        return Arrays.stream(Guard.Key.values())
+            .filter(it -> it.word.equals(word))
+            .findFirst()
+            .orElseThrow();
     }
 
     private static Guard.Kind kind(String word) {
-        return Arrays.stream(Guard.Kind.values()).filter(it -> it.word.equals(word)).findFirst().orElseThrow();
+        return Arrays.stream(Guard.Kind.values())
+            .filter(it -> it.word.equals(word))
+            .findFirst()
+            .orElseThrow();
     }
 
     private static List<String> split(String words) {
@@ -237,7 +254,8 @@ final class GuardTest {
                 String by = ",\"by\":" + actor + ",\"reply\":";
                 List<String> entries =
                     audit.lines().filter(line -> line.contains(by))
-                        .map(line -> line.substring(line.indexOf(by) + by.length(), line.length() - 1))
+                        .map(line -> line.substring(line.indexOf(by) + by.length()))
+                        .map(reply -> reply.substring(0, reply.length() - 1))
                         .collect(Collectors.toList());
                 require(entries.equals(answers.get(actor - 1)), "the answers of actor " + actor);
             }
@@ -251,10 +269,11 @@ final class GuardTest {
         List<String> answers = new ArrayList<>();
         for (int number = 0; number < ORDERS; number++) {
             Guard.Verdict verdict =
-                guard.kill(actor, Guard.Key.PROCESS, "p" + number % 6, Guard.Kind.REBOOT_AND_DELETE, Guard.Kind.REBOOT, number);
+                guard.kill(actor, Guard.Key.PROCESS, "p" + number % 6, Guard.Kind.REBOOT_AND_DELETE,
+                    Guard.Kind.REBOOT, number);
+            String named = verdict.named().isPresent() ? "," + verdict.named().getAsInt() : "";
             String rule =
-                verdict.rule().map(it -> "[\"" + it.word + "\""
-                    + (verdict.named().isPresent() ? "," + verdict.named().getAsInt() : "") + "]").orElse("null");
+                verdict.rule().map(it -> "[\"" + it.word + "\"" + named + "]").orElse("null");
             String struck = verdict.struck().map(it -> "\"" + it.word + "\"").orElse("null");
             answers.add("{\"verdict\":{\"rule\":" + rule + ",\"struck\":" + struck + "}}");
         }
@@ -289,13 +308,18 @@ final class GuardTest {
             one.kill(1, Guard.Key.ZONE, "z0", Guard.Kind.KILL_INSTANTLY);
             Files.writeString(audit, one.audit());
             try (Guard other = Guard.after(config, audit, program, patience)) {
-                check(other.audit().equals(one.audit()) && other.journalLength() == 1, "the journal");
+                check(other.audit().equals(one.audit()) && other.journalLength() == 1,
+                    "the journal");
                 one.kill(1, Guard.Key.ZONE, "z1", Guard.Kind.KILL_INSTANTLY);
                 other.kill(1, Guard.Key.ZONE, "z1", Guard.Kind.KILL_INSTANTLY);
-                check(other.audit().equals(one.audit()) && other.journalLength() == 2, "the next entry");
+                check(other.audit().equals(one.audit()) && other.journalLength() == 2,
+                    "the next entry");
             }
         }
-        Map<String, String> faults = Map.of("{\"audit\":1}\n", "audit: line 1: Header", "{\"audit\":2}\n{", "audit: line 2: Syntax");
+        Map<String, String> faults =
+            Map.of(
+                "{\"audit\":1}\n", "audit: line 1: Header",
+                "{\"audit\":2}\n{", "audit: line 2: Syntax");
         for (Map.Entry<String, String> it : faults.entrySet()) {
             Files.writeString(audit, it.getKey());
             Guard refused = Guard.after(config, audit, program, patience);
@@ -316,17 +340,24 @@ final class GuardTest {
 
     private void verdicts() {
         try (Guard guard = open()) {
-            Guard.Verdict first = guard.kill(1, Guard.Key.ZONE, "z0", Guard.Kind.KILL_INSTANTLY, Guard.Kind.REBOOT, 0);
-            check(first.struck().orElseThrow() == Guard.Kind.KILL_INSTANTLY && first.rule().isEmpty(), "z0 goes");
+            Guard.Verdict first =
+                guard.kill(1, Guard.Key.ZONE, "z0", Guard.Kind.KILL_INSTANTLY,
+                    Guard.Kind.REBOOT, 0);
+            check(
+                first.struck().orElseThrow() == Guard.Kind.KILL_INSTANTLY && first.rule().isEmpty(),
+                "z0 goes");
             Guard.Verdict second = guard.kill(1, Guard.Key.ZONE, "z1", Guard.Kind.KILL_INSTANTLY);
             check(second.struck().orElseThrow() == Guard.Kind.REBOOT, "z1 is rebooted");
-            check(second.rule().orElseThrow() == Guard.Rule.TOO_MANY_DESTROYED, "since too many would be destroyed");
+            check(second.rule().orElseThrow() == Guard.Rule.TOO_MANY_DESTROYED,
+                "since too many would be destroyed");
             check(second.named().orElseThrow() == 0, "by policy 0");
             Guard.Verdict third =
-                guard.kill(1, Guard.Key.ZONE, "z2", Guard.Kind.KILL_INSTANTLY, Guard.Kind.KILL_INSTANTLY, 0);
+                guard.kill(1, Guard.Key.ZONE, "z2", Guard.Kind.KILL_INSTANTLY,
+                    Guard.Kind.KILL_INSTANTLY, 0);
             check(third.struck().isEmpty(), "z2 lives");
             Guard.Ruling nobody = guard.unclog(1, Guard.Key.DATA_HALL, "h0");
-            check(nobody.rule().orElseThrow() == Guard.Rule.NO_TARGET && nobody.named().isEmpty(), "nobody is in a hall");
+            check(nobody.rule().orElseThrow() == Guard.Rule.NO_TARGET && nobody.named().isEmpty(),
+                "nobody is in a hall");
         }
     }
 
@@ -334,16 +365,20 @@ final class GuardTest {
         try (Guard guard = open()) {
             Guard.ActRefused up = thrown(Guard.ActRefused.class, () -> guard.up(0, 2));
             check(up.refusal() == Guard.Refusal.IS_UP && up.named().isEmpty(), "p2 is up");
-            Guard.ActRefused form = thrown(Guard.ActRefused.class, () -> guard.form(0, List.of(0, 1), 0));
-            check(form.refusal() == Guard.Refusal.TEAM_SHORT && form.named().orElseThrow() == 0, "one zone is short");
+            Guard.ActRefused form =
+                thrown(Guard.ActRefused.class, () -> guard.form(0, List.of(0, 1), 0));
+            check(form.refusal() == Guard.Refusal.TEAM_SHORT && form.named().orElseThrow() == 0,
+                "one zone is short");
             Guard.ActRefused role = thrown(Guard.ActRefused.class, () -> guard.heal(1, 0));
-            check(role.refusal() == Guard.Refusal.WRONG_ROLE, "an actor of role fault heals nobody");
+            check(role.refusal() == Guard.Refusal.WRONG_ROLE,
+                "an actor of role fault heals nobody");
             check(guard.journalLength() == 3, "refusals stand in the journal");
         }
     }
 
     private void arguments() {
         try (Guard guard = open()) {
+            List<Integer> many = IntStream.range(0, 1025).boxed().collect(Collectors.toList());
             List<Callable<?>> bad =
                 List.of(
                     () -> guard.kill(1, Guard.Key.ZONE, "no name", Guard.Kind.REBOOT),
@@ -351,11 +386,12 @@ final class GuardTest {
                     () -> guard.kill(1, Guard.Key.ZONE, "z".repeat(33), Guard.Kind.REBOOT),
                     () -> guard.kill(1, Guard.Key.ZONE, "z0\n", Guard.Kind.REBOOT),
                     () -> guard.kill(1, Guard.Key.ZONE, "z0", Guard.Kind.CLOG),
-                    () -> guard.kill(1, Guard.Key.ZONE, "z0", Guard.Kind.REBOOT, Guard.Kind.KILL_INSTANTLY, 0),
+                    () -> guard.kill(1, Guard.Key.ZONE, "z0", Guard.Kind.REBOOT,
+                        Guard.Kind.KILL_INSTANTLY, 0),
                     () -> guard.tick(-1, 1),
                     () -> guard.sync(0, -1),
                     () -> guard.begin(0, 0, new byte[32_768]),
-                    () -> guard.form(0, java.util.stream.IntStream.range(0, 1025).boxed().collect(Collectors.toList()), 0));
+                    () -> guard.form(0, many, 0));
             for (Callable<?> one : bad) {
                 thrown(IllegalArgumentException.class, one::call);
             }
@@ -379,7 +415,8 @@ final class GuardTest {
             check(guard.copy(0, 0, 0, 4) == 4, "message 4 goes to p4");
             guard.lose(0, 4);
             guard.protect(4, 1, EnumSet.of(Guard.Kind.REBOOT));
-            check(guard.kill(1, Guard.Key.PROCESS, "p1", Guard.Kind.REBOOT).rule().orElseThrow() == Guard.Rule.PROTECTED, "p1 is protected");
+            Guard.Verdict barred = guard.kill(1, Guard.Key.PROCESS, "p1", Guard.Kind.REBOOT);
+            check(barred.rule().orElseThrow() == Guard.Rule.PROTECTED, "p1 is protected");
         }
     }
 
@@ -391,28 +428,39 @@ final class GuardTest {
             guard.protect(4, 4, EnumSet.of(Guard.Kind.REBOOT, Guard.Kind.CLOG));
             thrown(Guard.ActRefused.class, () -> guard.up(0, 2));
             String audit = guard.audit();
-            Guard.Verdict told = guard.judge(1, Guard.Key.ZONE, "z1", Guard.Kind.KILL_INSTANTLY, Guard.Kind.REBOOT);
+            Guard.Verdict told =
+                guard.judge(1, Guard.Key.ZONE, "z1", Guard.Kind.KILL_INSTANTLY, Guard.Kind.REBOOT);
             check(told.struck().orElseThrow() == Guard.Kind.REBOOT, "z1 would be rebooted");
-            check(told.rule().orElseThrow() == Guard.Rule.TOO_MANY_DESTROYED, "since too many would be destroyed");
+            check(told.rule().orElseThrow() == Guard.Rule.TOO_MANY_DESTROYED,
+                "since too many would be destroyed");
             Guard.Borne borne = guard.bears();
-            check(borne.toString().equals("emptied 0, gone 0"), "some single process is too many now: " + borne);
-            check(borne.emptiedExact && borne.goneExact && borne.emptied == 0 && borne.gone == 0, "and 0 is exact");
-            check(guard.audit().equals(audit) && children() == 1, "nothing is entered, and nothing is left running");
+            check(borne.toString().equals("emptied 0, gone 0"),
+                "some single process is too many now: " + borne);
+            check(borne.emptiedExact && borne.goneExact && borne.emptied == 0 && borne.gone == 0,
+                "and 0 is exact");
+            check(guard.audit().equals(audit) && children() == 1,
+                "nothing is entered, and nothing is left running");
             try (Guard other = guard.tryCopy()) {
-                check(other.audit().equals(audit) && other.journalLength() == 3, "the copy has the journal");
+                check(other.audit().equals(audit) && other.journalLength() == 3,
+                    "the copy has the journal");
                 other.tick(0, 7);
-                check(guard.audit().equals(audit) && guard.tick(0, 1) == 1, "neither changes the other");
+                check(guard.audit().equals(audit) && guard.tick(0, 1) == 1,
+                    "neither changes the other");
                 check(other.tick(0, 1) == 8, "and the copy goes on");
             }
             guard.reset();
-            check(guard.audit().equals("{\"audit\":2}\n") && guard.journalLength() == 0, "nothing happened yet");
-            check(guard.kill(1, Guard.Key.ZONE, "z1", Guard.Kind.KILL_INSTANTLY).rule().isEmpty(), "z1 goes now");
+            check(guard.audit().equals("{\"audit\":2}\n") && guard.journalLength() == 0,
+                "nothing happened yet");
+            check(guard.kill(1, Guard.Key.ZONE, "z1", Guard.Kind.KILL_INSTANTLY).rule().isEmpty(),
+                "z1 goes now");
             Files.writeString(own, text.replace("Across(2,", "Across(1,"));
             Guard.GuardEnded another = thrown(Guard.GuardEnded.class, guard::tryCopy);
-            check(another.getMessage().equals("entry 0 is another in the copy"), another.getMessage());
+            check(another.getMessage().equals("entry 0 is another in the copy"),
+                another.getMessage());
             Files.writeString(own, "=");
             check(guard.bears().emptied == 0, "it is asked about the file as it was opened");
-            check(guard.targets(Guard.Key.ZONE, "z1").isEmpty() && guard.processCount() == 6, "and knows its places");
+            check(guard.targets(Guard.Key.ZONE, "z1").isEmpty() && guard.processCount() == 6,
+                "and knows its places");
             thrown(Guard.ConfigRefused.class, guard::reset);
             thrown(Guard.ConfigRefused.class, () -> guard.tick(0, 1));
         }
@@ -422,30 +470,41 @@ final class GuardTest {
     private void processes() {
         Guard closed = open();
         try (Guard guard = closed) {
-            check(guard.processCount() == 6 && guard.process("p4").orElseThrow() == 4, "p4 is process 4");
-            check(guard.process("p6").isEmpty() && guard.process("z0").isEmpty(), "there is no process p6 or z0");
+            check(guard.processCount() == 6 && guard.process("p4").orElseThrow() == 4,
+                "p4 is process 4");
+            check(guard.process("p6").isEmpty() && guard.process("z0").isEmpty(),
+                "there is no process p6 or z0");
             guard.clog(1, Guard.Key.ZONE, "z0", 3);
             guard.clog(1, Guard.Key.PROCESS, "p1", 2);
             guard.killProcess(1, 0, Guard.Kind.KILL_INSTANTLY);
             guard.killProcess(1, 1, Guard.Kind.REBOOT_AND_DELETE);
-            check(guard.state(0).orElseThrow().toString().equals("down, clogged, gone"), "p0 is gone");
+            check(guard.state(0).orElseThrow().toString().equals("down, clogged, gone"),
+                "p0 is gone");
             Guard.State emptied = guard.state(1).orElseThrow();
-            check(emptied.destroyed && !emptied.gone && !emptied.up && emptied.clogged, "p1 is emptied");
-            check(guard.left().equals(Set.of(1, 2, 3, 4, 5)) && guard.gone().equals(Set.of(0)), "who is left");
-            check(guard.destroyed().equals(Set.of(0, 1)) && guard.isDestroyed(1), "who is destroyed");
+            check(emptied.destroyed && !emptied.gone && !emptied.up && emptied.clogged,
+                "p1 is emptied");
+            check(guard.left().equals(Set.of(1, 2, 3, 4, 5)) && guard.gone().equals(Set.of(0)),
+                "who is left");
+            check(guard.destroyed().equals(Set.of(0, 1)) && guard.isDestroyed(1),
+                "who is destroyed");
             check(guard.upSet().equals(Set.of(2, 3, 4, 5)), "who is up");
-            check(guard.targets(Guard.Key.ZONE, "z0").equals(Set.of(1)), "who is gone is no target");
+            check(guard.targets(Guard.Key.ZONE, "z0").equals(Set.of(1)),
+                "who is gone is no target");
             guard.up(0, 1);
             guard.heal(0, 1);
             guard.tick(0, 2);
-            check(guard.state(1).orElseThrow().toString().equals("up, clogged"), "a clog shortens no other");
+            check(guard.state(1).orElseThrow().toString().equals("up, clogged"),
+                "a clog shortens no other");
             guard.unclog(1, Guard.Key.ZONE, "z0");
-            check(guard.state(1).orElseThrow().toString().equals("up") && !guard.isDestroyed(1), "p1 is healed");
+            check(guard.state(1).orElseThrow().toString().equals("up") && !guard.isDestroyed(1),
+                "p1 is healed");
             check(guard.state(0).orElseThrow().clogged, "who is gone is no target of an unclog");
             guard.tick(0, (1L << 40) - 12);
             guard.clog(1, Guard.Key.PROCESS, "p4", -1);
-            check(guard.tick(0, 9) == (1L << 40) - 1 && guard.state(4).orElseThrow().clogged, "clogged to the clock's end");
-            check(guard.tick(0, 1) == 1L << 40 && !guard.state(4).orElseThrow().clogged, "and no longer");
+            check(guard.tick(0, 9) == (1L << 40) - 1 && guard.state(4).orElseThrow().clogged,
+                "clogged to the clock's end");
+            check(guard.tick(0, 1) == 1L << 40 && !guard.state(4).orElseThrow().clogged,
+                "and no longer");
             check(guard.state(6).isEmpty() && !guard.isDestroyed(6), "there is no process 6");
             thrown(IllegalArgumentException.class, () -> guard.state(-1));
             thrown(IllegalArgumentException.class, () -> guard.isDestroyed(-1));
@@ -456,9 +515,11 @@ final class GuardTest {
         }
         List<Call> asked =
             List.of(
-                () -> closed.state(0), () -> closed.isDestroyed(0), () -> closed.process("p0"), closed::processCount,
-                () -> closed.targets(Guard.Key.ZONE, "z0"), closed::left, closed::destroyed, closed::gone, closed::upSet,
-                () -> closed.killable(1), () -> closed.judgeProcess(1, 0, Guard.Kind.REBOOT, Guard.Kind.REBOOT), closed::bears);
+                () -> closed.state(0), () -> closed.isDestroyed(0), () -> closed.process("p0"),
+                closed::processCount, () -> closed.targets(Guard.Key.ZONE, "z0"), closed::left,
+                closed::destroyed, closed::gone, closed::upSet, () -> closed.killable(1),
+                () -> closed.judgeProcess(1, 0, Guard.Kind.REBOOT, Guard.Kind.REBOOT),
+                closed::bears);
         for (Call one : asked) {
             thrown(Guard.GuardEnded.class, one);
         }
@@ -468,27 +529,38 @@ final class GuardTest {
         String hard = Guard.Kind.KILL_INSTANTLY.word;
         try (Guard guard = open()) {
             guard.protect(4, 5, EnumSet.of(Guard.Kind.REBOOT, Guard.Kind.KILL_INSTANTLY));
-            check(hardest(guard, 1).equals((hard + " ").repeat(5) + "RebootAndDelete"), "all but p5 may be killed");
+            check(hardest(guard, 1).equals((hard + " ").repeat(5) + "RebootAndDelete"),
+                "all but p5 may be killed");
             check(hardest(guard, 3).equals("- - - - - -"), "actor 3 has no grant");
             guard.killProcess(1, 0, Guard.Kind.KILL_INSTANTLY);
-            check(hardest(guard, 1).equals("- " + hard + " Reboot Reboot Reboot RebootProcess"), "and now: " + hardest(guard, 1));
+            check(hardest(guard, 1).equals("- " + hard + " Reboot Reboot Reboot RebootProcess"),
+                "and now: " + hardest(guard, 1));
             for (int process = 1; process < 6; process++) {
-                Guard.Verdict judged = guard.judgeProcess(1, process, Guard.Kind.REBOOT_AND_DELETE, Guard.Kind.REBOOT_AND_DELETE);
-                Guard.Verdict told = guard.killProcess(1, process, Guard.Kind.REBOOT_AND_DELETE, Guard.Kind.REBOOT_AND_DELETE, 7);
+                Guard.Verdict judged =
+                    guard.judgeProcess(1, process, Guard.Kind.REBOOT_AND_DELETE,
+                        Guard.Kind.REBOOT_AND_DELETE);
+                Guard.Verdict told =
+                    guard.killProcess(1, process, Guard.Kind.REBOOT_AND_DELETE,
+                        Guard.Kind.REBOOT_AND_DELETE, 7);
                 check(judged.toString().equals(told.toString()), "p" + process + ": " + judged);
             }
-            check(guard.audit().contains("\"tear\":7,\"value\":\"p5\""), "a kill by number is one by name");
-            check(guard.journalLength() == 7 && children() == 1, "nothing is entered, and nothing is left running");
+            check(guard.audit().contains("\"tear\":7,\"value\":\"p5\""),
+                "a kill by number is one by name");
+            check(guard.journalLength() == 7 && children() == 1,
+                "nothing is entered, and nothing is left running");
             Guard.ActRefused stranger = thrown(Guard.ActRefused.class, () -> guard.killable(9));
             check(stranger.refusal() == Guard.Refusal.STRANGER, "there is no actor 9");
             for (int process : new int[] {-1, 6}) {
-                thrown(IllegalArgumentException.class, () -> guard.killProcess(1, process, Guard.Kind.REBOOT));
+                thrown(IllegalArgumentException.class,
+                    () -> guard.killProcess(1, process, Guard.Kind.REBOOT));
             }
             thrown(IllegalArgumentException.class, () -> guard.killable(-1));
             check(guard.journalLength() == 7, "nothing was sent");
         }
-        String text = Files.readString(config).replaceFirst("journal_limit = \\d+", "journal_limit = 1");
-        try (Guard guard = new Guard(Files.writeString(folder.resolve("one.toml"), text), program)) {
+        String text =
+            Files.readString(config).replaceFirst("journal_limit = \\d+", "journal_limit = 1");
+        Path one = Files.writeString(folder.resolve("one.toml"), text);
+        try (Guard guard = new Guard(one, program)) {
             check(guard.killable(2).size() == 6, "there is room");
             guard.tick(0, 1);
             thrown(Guard.JournalFull.class, () -> guard.killable(2));
@@ -497,35 +569,42 @@ final class GuardTest {
     }
 
     private static String hardest(Guard guard, int by) {
-        return guard.killable(by).stream().map(it -> it.map(kind -> kind.word).orElse("-")).collect(Collectors.joining(" "));
+        return guard.killable(by).stream()
+            .map(it -> it.map(kind -> kind.word).orElse("-"))
+            .collect(Collectors.joining(" "));
     }
 
     private void configs() throws IOException {
         String text = Files.readString(config);
         String[][] faults = {
             {"config: Toml", "="},
-            {"config: Limit JournalLimit", text.replaceFirst("journal_limit = \\d+", "journal_limit = 0")},
+            {"config: Limit JournalLimit",
+                text.replaceFirst("journal_limit = \\d+", "journal_limit = 0")},
             {"config: Policy 0", text.replace("Across(2,zoneid,One())", "Across(2, zoneid,One())")},
             {"config: PolicyUnmet 0", text.replace("Across(2,", "Across(4,")},
         };
         for (String[] one : faults) {
             Path bad = Files.writeString(folder.resolve("bad.toml"), one[1]);
-            Guard.ConfigRefused refused = thrown(Guard.ConfigRefused.class, () -> new Guard(bad, program));
+            Guard.ConfigRefused refused =
+                thrown(Guard.ConfigRefused.class, () -> new Guard(bad, program));
             check(refused.getMessage().equals(one[0]), refused.getMessage());
         }
-        Guard.GuardEnded ended = thrown(Guard.GuardEnded.class, () -> new Guard(folder.resolve("none.toml"), program));
+        Guard.GuardEnded ended =
+            thrown(Guard.GuardEnded.class, () -> new Guard(folder.resolve("none.toml"), program));
         check(ended.fault().equals("read fault"), ended.getMessage());
     }
 
     private void fullJournal() throws IOException {
-        String text = Files.readString(config).replaceFirst("journal_limit = \\d+", "journal_limit = 2");
+        String text =
+            Files.readString(config).replaceFirst("journal_limit = \\d+", "journal_limit = 2");
         Path small = Files.writeString(folder.resolve("small.toml"), text);
         try (Guard guard = new Guard(small, program)) {
             guard.tick(0, 1);
             guard.tick(0, 1);
             thrown(Guard.JournalFull.class, () -> guard.tick(0, 1));
             thrown(Guard.JournalFull.class, () -> guard.up(0, 1));
-            check(guard.journalLength() == 2 && guard.audit().lines().count() == 3, "two entries stand");
+            check(guard.journalLength() == 2 && guard.audit().lines().count() == 3,
+                "two entries stand");
         }
     }
 
@@ -551,11 +630,13 @@ final class GuardTest {
         thrown(Guard.GuardEnded.class, () -> new Guard(config, folder.resolve("none").toString()));
         thrown(Guard.GuardEnded.class, () -> new Guard(config, "/bin/echo"));
         thrown(Guard.GuardEnded.class, () -> new Guard(config, "/bin/false"));
-        String odd = script("odd", "echo '{\"audit\":2}'\nread line\necho '{\"act\":1}'\nread line\n");
+        String odd =
+            script("odd", "echo '{\"audit\":2}'\nread line\necho '{\"act\":1}'\nread line\n");
         try (Guard guard = new Guard(config, odd)) {
             thrown(Guard.GuardEnded.class, () -> guard.tick(0, 1));
         }
-        String loud = script("loud", "head -c 1000000 /dev/zero >&2\nexec " + program + " \"$@\"\n");
+        String loud =
+            script("loud", "head -c 1000000 /dev/zero >&2\nexec " + program + " \"$@\"\n");
         try (Guard guard = new Guard(config, loud)) {
             check(guard.tick(0, 1) == 1, "much on standard error blocks nothing");
         }

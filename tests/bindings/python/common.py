@@ -122,7 +122,8 @@ def eight_actors(folder):
     )
     text = (
         'journal_limit = 100000\npolicies = ["Across(2,zoneid,One())"]\n'
-        f'process = [\n{places}]\nactor = [\n  {{role = "storage"}},\n{fault}  {{role = "operator"}},\n]\n'
+        f"process = [\n{places}]\n"
+        f'actor = [\n  {{role = "storage"}},\n{fault}  {{role = "operator"}},\n]\n'
     )
     return written(folder, "eight.toml", text)
 

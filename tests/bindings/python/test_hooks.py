@@ -73,7 +73,8 @@ join = leave = write = check = ask
 servers, some, able = fy.clients(lambda address, seconds: type("", (), {"ask": ask}))
 
 def read():
-    return f"{fy.works(ask)} {fy.wait(ask, 0)} {fy.works(fy.answered, ask, -1)} {fy.works(some.ask)}"
+    waited = f"{fy.wait(ask, 0)} {fy.works(fy.answered, ask, -1)}"
+    return f"{fy.works(ask)} {waited} {fy.works(some.ask)}"
 
 def start(n):
     raise ValueError("a fault of the hooks")

@@ -196,7 +196,8 @@ class Installed(common.Folder, unittest.TestCase):
             "#!/bin/sh\n"
             '[ "$1" = check ] && exec ' + common.PROGRAM + ' "$@"\n'
             "echo '{\"audit\":2}'\nread line\n"
-            'echo \'{"act":{"tick":{"ticks":1}},"at":0,"by":0,"reply":{"time":2}}\'\nread line || exit 0\n',
+            'echo \'{"act":{"tick":{"ticks":1}},"at":0,"by":0,"reply":{"time":2}}\'\n'
+            "read line || exit 0\n",
         )
         liar.chmod(0o755)
         ran = self.pytest(
@@ -207,7 +208,10 @@ class Installed(common.Folder, unittest.TestCase):
         self.assertIn("faultyard check: bad entry 0", ran.stdout)
 
     def test_a_guard_that_died_fails_the_test(self):
-        text = "import os, signal\ndef test_it(faultyard_guard):\n    os.kill(faultyard_guard._transport._process.pid, signal.SIGKILL)\n"
+        text = (
+            "import os, signal\ndef test_it(faultyard_guard):\n"
+            "    os.kill(faultyard_guard._transport._process.pid, signal.SIGKILL)\n"
+        )
         ran = self.pytest(text)
         self.assertIn("1 passed, 1 error", ran.stdout)
         self.assertIn("status -9", ran.stdout)
@@ -219,7 +223,9 @@ class Installed(common.Folder, unittest.TestCase):
     def test_a_fixture_of_the_project_names_another_cluster_file(self):
         text = (
             "import pytest\n@pytest.fixture\ndef faultyard_cluster():\n    return 'six.toml'\n"
-            "def test_it(faultyard_guard):\n    assert len(faultyard_guard.act(0, {'form': {'members': [5], 'policy': 0}}).act) == 1\n"
+            "def test_it(faultyard_guard):\n"
+            "    form = {'form': {'members': [5], 'policy': 0}}\n"
+            "    assert len(faultyard_guard.act(0, form).act) == 1\n"
             "    assert faultyard_guard.act(0, {'sync': {'process': 5}}).reply.count == 0\n"
         )
         common.written(self.folder, "six.toml", common.SIX.read_text())

@@ -20,13 +20,15 @@ WORD = re.compile(r"[\w'](?:[\w'-]*[\w'])?")
 # What a path begins with, where that is a crate or a module: a function may have the same name.
 PATH_ROOT = re.compile(r"\bRattle\.\w+(?=\.)|(?<![\w:.])[a-z]\w*(?=::)")
 MARGIN_ITEM = re.compile(
-    r"(?:pub(?:\([\w :]+\))? )?(?:unsafe )?(?:extern \"C\" )?(const fn|fn|struct|enum|union|type|const|static|trait|impl|mod|use|ghost use)\b"
+    r"(?:pub(?:\([\w :]+\))? )?(?:unsafe )?(?:extern \"C\" )?"
+    r"(const fn|fn|struct|enum|union|type|const|static|trait|impl|mod|use|ghost use)\b"
 )
 # Traits whose functions are called without their name, by an operator, a loop, `?`, or where a
 # value ends.
 UNNAMED = re.compile(
-    r"(?:\w+::)*(Model|Drop|From|Into|TryFrom|Iterator|IntoIterator|FromIterator|Extend|Deref|DerefMut|Index|IndexMut|PartialEq|Eq"
-    r"|PartialOrd|Ord|Hash|Clone|Copy|Default|Debug|Display|Write|Read|Error|Termination|Not|Neg|\w+Assign|Add|Sub|Mul|Div|Rem"
+    r"(?:\w+::)*(Model|Drop|From|Into|TryFrom|Iterator|IntoIterator|FromIterator|Extend"
+    r"|Deref|DerefMut|Index|IndexMut|PartialEq|Eq|PartialOrd|Ord|Hash|Clone|Copy|Default"
+    r"|Debug|Display|Write|Read|Error|Termination|Not|Neg|\w+Assign|Add|Sub|Mul|Div|Rem"
     r"|BitAnd|BitOr|BitXor|Shl|Shr)\b"
 )
 FUNCTION = re.compile(r"(?:pub(?:\([\w :]+\))? )?(?:const )?(?:unsafe )?(?:extern \"C\" )?fn (\w+)")
@@ -383,7 +385,8 @@ class Reach:
                 self.named.setdefault(name, []).append(part)
 
     def of(self, users):
-        """The texts of the parts that these parts may use, of those that these may use, and so on."""
+        """The texts of the parts that these parts may use, of those that these may use, and so
+        on."""
         found, left = set(self.always), [*users, *self.always]
         while left:
             user = left.pop()

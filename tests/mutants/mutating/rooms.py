@@ -13,7 +13,10 @@ BY_NAME = r"has no field|has no `|is not in scope|that can be named from here|wa
 # without it.
 BY_TRIVIALITY = r"expected type `?Unit"
 
-WEAK = "weak: an answer names a step that it took away, which says little of the contract: turn a value"
+WEAK = (
+    "weak: an answer names a step that it took away, which says little of the contract:"
+    " turn a value"
+)
 
 printing = threading.Lock()
 # rt works on one crate, and all below it, at a time
@@ -62,7 +65,8 @@ class Said:
         found = []
         for line in self.lines:
             at = re.match(
-                rf"(?:\./)?(proofs/(?:\S+/)?\+?{re.escape(function)}/\w+\.antt):\d+:\d+: error: (?:`([^`]*)`: )?(.*)",
+                rf"(?:\./)?(proofs/(?:\S+/)?\+?{re.escape(function)}/\w+\.antt):\d+:\d+: error: "
+                r"(?:`([^`]*)`: )?(.*)",
                 line,
             )
             if at:
@@ -154,8 +158,8 @@ def toolchain():
 
 
 def stamp_all(folder, below):
-    """Marks the libraries of a copy as those of its text, which have just been built: `rt ci` leaves
-    no mark, and one of `rt check` is by another crates.txt, so rt would build them anew.
+    """Marks the libraries of a copy as those of its text, which have just been built: `rt ci`
+    leaves no mark, and one of `rt check` is by another crates.txt, so rt would build them anew.
 
     The copy is whole in itself: no other copy takes a library from it, since rt compares what each
     was built over.
@@ -281,7 +285,8 @@ class Room:
         )
         for line in strays[:1]:
             say(
-                f"{self.name}: beside what was turned, and so tried again over its proofs: {line[:200]}"
+                f"{self.name}: beside what was turned, and so tried again over its proofs:"
+                f" {line[:200]}"
             )
         return not strays
 
@@ -341,7 +346,8 @@ def try_alone(room, edit, said=None):
         if again is None:
             return (
                 False,
-                f"NOT REFUSED: its goal {found[0]} is proved without the answer that was written for it",
+                f"NOT REFUSED: its goal {found[0]} is proved without the answer that was written"
+                " for it",
             )
         goals = [again.goal_open(it) for it in sorted(edit.functions) if again.goal_open(it)]
         return True, f"refused at {goals[0] if goals else found[0]} ({WEAK})"

@@ -12,9 +12,9 @@ import (
 // processes is how many processes the cluster has, which are rebooted one after another.
 const processes = 1000
 
-// ask has so many clients ask a server for so many seconds, each of which waits for its answer before
-// it asks again, and prints how many answers came a second. A tester in Python would take longer for
-// an answer than the server.
+// ask has so many clients ask a server for so many seconds, each of which waits for its answer
+// before it asks again, and prints how many answers came a second. A tester in Python would take
+// longer for an answer than the server.
 func ask(path, count, seconds string) {
 	clients, err := strconv.Atoi(count)
 	if err != nil {

@@ -4,8 +4,8 @@
 //	echo SOCKET [FILE]
 //	echo ask SOCKET CLIENTS SECONDS
 //
-// With FILE it appends the lines that came together, and answers them once they are on the disk. The
-// second form is the clients of a server.
+// With FILE it appends the lines that came together, and answers them once they are on the disk.
+// The second form is the clients of a server.
 package main
 
 import (

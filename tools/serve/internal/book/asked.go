@@ -54,7 +54,8 @@ func readAsk(ask Ask) (asked, Fault) {
 // mostReply is how many bytes the line of an entry has at most more than that of its act.
 const mostReply = 128
 
-// fits says whether the entry of a line is no longer than a line of an audit. An entry has no blanks.
+// fits says whether the entry of a line is no longer than a line of an audit. An entry has no
+// blanks.
 func fits(line []byte) bool {
 	if len(line)+mostReply <= mostLine {
 		return true

@@ -13,8 +13,8 @@ import (
 func (files Files) begun() string { return files.Audit + ".cluster" }
 
 // begunUnderIt refuses an audit that was begun under another cluster file. The guard alone doesn't
-// see that: all that was answered so far may be what it would answer too. An audit of a guard has no
-// copy beside it, and is taken.
+// see that: all that was answered so far may be what it would answer too. An audit of a guard has
+// no copy beside it, and is taken.
 func (files Files) begunUnderIt() error {
 	is, err := files.isBegun()
 	switch {
@@ -27,7 +27,8 @@ func (files Files) begunUnderIt() error {
 	return Refusal{1, fmt.Sprintf(why, files.Cluster, files.begun())}
 }
 
-// isBegun says whether the copy has the same bytes. What two texts mean the library doesn't compare.
+// isBegun says whether the copy has the same bytes. What two texts mean the library doesn't
+// compare.
 func (files Files) isBegun() (bool, error) {
 	file, err := os.Open(files.begun())
 	if err != nil {
@@ -38,8 +39,8 @@ func (files Files) isBegun() (bool, error) {
 	return err == nil && bytes.Equal(text, files.Config), err
 }
 
-// keepCluster keeps the copy, with the mode of the audit. It is renamed into its place once it is on
-// the disk, so a crash leaves the whole of it or none. The folder has to be synced behind it.
+// keepCluster keeps the copy, with the mode of the audit. It is renamed into its place once it is
+// on the disk, so a crash leaves the whole of it or none. The folder has to be synced behind it.
 func (book *Book) keepCluster(files Files) error {
 	if is, _ := files.isBegun(); is {
 		return nil

@@ -89,7 +89,8 @@ type Turn struct {
 // NewTurn is a turn without asks.
 func NewTurn() *Turn { return new(Turn) }
 
-// Party is the turns of several clients for whom one goroutine asks. It may be used again and again.
+// Party is the turns of several clients for whom one goroutine asks. It may be used again and
+// again.
 type Party struct {
 	Turns []*Turn
 	woken chan bool // true where the party is to lead
@@ -164,8 +165,8 @@ func (book *Book) SubmitAll(party *Party) {
 	book.handOn(parties)
 }
 
-// Patience is how long it is worth to wait for others before a party is submitted: a part of the last
-// sync's time, or nothing.
+// Patience is how long it is worth to wait for others before a party is submitted: a part of the
+// last sync's time, or nothing.
 func (book *Book) Patience() time.Duration {
 	book.lock.Lock()
 	defer book.lock.Unlock()
@@ -186,8 +187,8 @@ func (book *Book) handOn(served []*Party) {
 	}
 }
 
-// View calls a function while nobody acts and all that was done is on the disk. Where the disk failed,
-// the guard has acts that aren't there: then it isn't called, and the error says why.
+// View calls a function while nobody acts and all that was done is on the disk. Where the disk
+// failed, the guard has acts that aren't there: then it isn't called, and the error says why.
 func (book *Book) View(look func()) (err error) {
 	book.alone(func(stop error) {
 		if stop != nil && stop != ErrEnded {
@@ -297,8 +298,8 @@ func (book *Book) make(ask Ask, stats *Stats) (Answer, error) {
 	return Answer{Line: line}, nil
 }
 
-// unread is the fault of an act with whose entry the audit might not be read again: the guard answers
-// to lines and writes audits that are longer.
+// unread is the fault of an act with whose entry the audit might not be read again: the guard
+// answers to lines and writes audits that are longer.
 func (book *Book) unread(line []byte) Fault {
 	if !fits(line) {
 		return TooLong

@@ -50,8 +50,8 @@ type Files struct {
 
 // Open goes on with an audit, or begins one. It holds the file until the book is closed.
 //
-// A last line without its line feed was never answered, and is cut. Whatever else Files.After refuses
-// is left as it is, and the error is its Refusal.
+// A last line without its line feed was never answered, and is cut. Whatever else Files.After
+// refuses is left as it is, and the error is its Refusal.
 func Open(files Files) (*Book, error) {
 	audit, err := openFile(files.Audit, syscall.O_DSYNC)
 	if err != nil {
@@ -68,8 +68,8 @@ func Open(files Files) (*Book, error) {
 	return book, nil
 }
 
-// openFile opens a file that nobody else has, or makes it. With syscall.O_DSYNC each write returns once
-// it is on the disk, as after fdatasync.
+// openFile opens a file that nobody else has, or makes it. With syscall.O_DSYNC each write returns
+// once it is on the disk, as after fdatasync.
 func openFile(path string, how int) (*os.File, error) {
 	file, err := os.OpenFile(path, os.O_RDWR|os.O_CREATE|how, 0o644)
 	if err != nil {
@@ -133,8 +133,8 @@ func (book *Book) cut(files Files) error {
 	return onDisk(book.audit)
 }
 
-// openGuard opens a guard behind the whole lines of the audit. A file without any is as one with the
-// header alone.
+// openGuard opens a guard behind the whole lines of the audit. A file without any is as one with
+// the header alone.
 func (book *Book) openGuard(files Files) (err error) {
 	text, err := book.text()
 	if err != nil {

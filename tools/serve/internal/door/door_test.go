@@ -652,8 +652,8 @@ func TestALineIsAnsweredAsAGuardDoes(test *testing.T) {
 	same(test, "a full journal", full, wanted)
 }
 
-// TestMuchIsAskedBeforeAnythingIsRead has clients ask for more than a socket holds, in pieces of any
-// length, and read late. Each is answered all of it in its order, and none waits for another.
+// TestMuchIsAskedBeforeAnythingIsRead has clients ask for more than a socket holds, in pieces of
+// any length, and read late. Each is answered all of it in its order, and none waits for another.
 func TestMuchIsAskedBeforeAnythingIsRead(test *testing.T) {
 	const clients, acts = 6, 1000
 	web := begin(test, clients*(acts+1))
@@ -708,8 +708,8 @@ func TestMuchIsAskedBeforeAnythingIsRead(test *testing.T) {
 	}
 }
 
-// hears says that the lines of a client of the test above are right: the header, then an entry and a
-// fault for each act, the entries that there are, and the answer to the last act.
+// hears says that the lines of a client of the test above are right: the header, then an entry and
+// a fault for each act, the entries that there are, and the answer to the last act.
 func hears(test *testing.T, lines []string, acts int) {
 	last := -1
 	place := func(line string) int {
@@ -745,8 +745,8 @@ func hears(test *testing.T, lines []string, acts int) {
 	}
 }
 
-// TestOneIsAloneAndThenBesideOthers has others come to a client that stays, and go again. Whatever the
-// client said alone is answered once.
+// TestOneIsAloneAndThenBesideOthers has others come to a client that stays, and go again. Whatever
+// the client said alone is answered once.
 func TestOneIsAloneAndThenBesideOthers(test *testing.T) {
 	web := begin(test, 10_000)
 	path := filepath.Join(test.TempDir(), "socket")
@@ -929,7 +929,8 @@ func TestAnAnswerThatIsCutOffIsSeenToBe(test *testing.T) {
 	same(test, "there is an error", err != nil, true)
 }
 
-// TestOneWhoseEntriesCantBeReadIsLetGo has a client that is told entries, of which one can't be read.
+// TestOneWhoseEntriesCantBeReadIsLetGo has a client that is told entries, of which one can't be
+// read.
 func TestOneWhoseEntriesCantBeReadIsLetGo(test *testing.T) {
 	web := begin(test, 100)
 	ask(web, up, "POST /v1/acts")

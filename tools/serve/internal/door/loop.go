@@ -43,9 +43,9 @@ const (
 // tooLong is a line that the guard finds too long. It stands for one that isn't held.
 var tooLong = bytes.Repeat([]byte("x"), mostLine+1)
 
-// loop serves the clients of a socket by one thread, which waits for all of them at once. A goroutine
-// for each client would cost another change of threads for each line, and several loops one for each
-// sync.
+// loop serves the clients of a socket by one thread, which waits for all of them at once. A
+// goroutine for each client would cost another change of threads for each line, and several loops
+// one for each sync.
 type loop struct {
 	lines   *Lines
 	poll    int // the descriptor of epoll
@@ -160,8 +160,8 @@ func (its *loop) run() error {
 	}
 }
 
-// hear waits a moment for a client who is alone, and says whether it spoke. Others who come meanwhile
-// are served behind that moment.
+// hear waits a moment for a client who is alone, and says whether it spoke. Others who come
+// meanwhile are served behind that moment.
 func (its *loop) hear() bool {
 	client := its.alone()
 	if client == nil || client.isFull || !client.canBeHeard {
@@ -177,8 +177,8 @@ func (its *loop) hear() bool {
 	return true
 }
 
-// spin looks again and again for what a quick client says next: to sleep and be woken takes as long as
-// all else of a round trip. Where there is one processor, the client would wait for it.
+// spin looks again and again for what a quick client says next: to sleep and be woken takes as long
+// as all else of a round trip. Where there is one processor, the client would wait for it.
 func (its *loop) spin(client *client) bool {
 	if !its.isQuick || runtime.NumCPU() == 1 {
 		return false
@@ -276,7 +276,8 @@ func (its *loop) look(client *client) {
 }
 
 // gather waits for as many clients as the last batch served, at most for a part of the last sync's
-// time: clients that were answered together ask together again, and then one sync serves all of them.
+// time: clients that were answered together ask together again, and then one sync serves all of
+// them.
 func (its *loop) gather() {
 	if len(its.ready) == 0 || len(its.ready) >= its.lastReady {
 		return
@@ -390,8 +391,8 @@ func (its *loop) forget(client *client) {
 	_ = syscall.Close(client.descriptor)
 }
 
-// moved receives into a part of memory or sends it, as the flags say. Where the thread never waits the
-// scheduler isn't told of the call: that takes as long as a short call itself.
+// moved receives into a part of memory or sends it, as the flags say. Where the thread never waits
+// the scheduler isn't told of the call: that takes as long as a short call itself.
 func moved(call uintptr, descriptor int, part []byte, flags uintptr) (int, error) {
 	if len(part) == 0 {
 		return 0, nil

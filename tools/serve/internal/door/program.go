@@ -61,8 +61,8 @@ func (program *Program) run(stdin io.Reader, words []string, files ...io.Reader)
 	return out.Bytes(), nil
 }
 
-// wait runs a command to its end. One that takes too long is killed with all that it has started, as
-// a script may have: what it left running would keep the ends of the pipes.
+// wait runs a command to its end. One that takes too long is killed with all that it has started,
+// as a script may have: what it left running would keep the ends of the pipes.
 func (program *Program) wait(command *exec.Cmd) error {
 	if err := command.Start(); err != nil {
 		return err

@@ -159,8 +159,8 @@ func (web *Web) ServeHTTP(writer http.ResponseWriter, request *http.Request) {
 	web.dispatch(its, request)
 }
 
-// breaks tells of a panic, and answers it. Whoever has got a part of an answer sees that the rest is
-// missing.
+// breaks tells of a panic, and answers it. Whoever has got a part of an answer sees that the rest
+// is missing.
 func (web *Web) breaks(its *told, request *http.Request, why any) {
 	isTold := its.isTold
 	its.status = http.StatusInternalServerError

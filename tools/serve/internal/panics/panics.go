@@ -1,5 +1,5 @@
-// Package panics makes errors of panics, where one that went on would end a single client, and leave
-// the others waiting: net/http catches those of its handlers.
+// Package panics makes errors of panics, where one that went on would end a single client, and
+// leave the others waiting: net/http catches those of its handlers.
 package panics
 
 import (

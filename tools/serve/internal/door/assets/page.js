@@ -56,7 +56,9 @@ function replyInWords(reply) {
     const { struck, rule } = reply.verdict;
     return [struck ? make("b", "", struck) : make("span", "none", "nothing"), inWords(rule)];
   }
-  if ("ruled" in reply) return [reply.ruled ? make("span", "none", "nothing") : "done", inWords(reply.ruled)];
+  if ("ruled" in reply) {
+    return [reply.ruled ? make("span", "none", "nothing") : "done", inWords(reply.ruled)];
+  }
   if (reply.no) return [make("span", "none", "refused"), reply.no.join(" ")];
   return [Object.keys(reply)[0], ""];
 }
@@ -64,7 +66,8 @@ function replyInWords(reply) {
 /** Puts an entry on top of the last orders. */
 function showEntry(entry) {
   const [name] = Object.keys(entry.act);
-  const cells = [entry.at, entry.by, actInWords(name, entry.act[name]), ...replyInWords(entry.reply)];
+  const act = actInWords(name, entry.act[name]);
+  const cells = [entry.at, entry.by, act, ...replyInWords(entry.reply)];
   at("orders-body").prepend(make("tr", "", ...cells.map((it) => make("td", "", it))));
   while (at("orders-body").rows.length > SHOWN) at("orders-body").lastChild.remove();
 }
@@ -94,8 +97,12 @@ async function showState() {
   return state.entries;
 }
 
-const GROUPS = { machineid: "machines", zoneid: "zones", data_hall: "data halls", dcid: "data centres" };
-const LOSSES = { RebootAndDelete: "Emptied (RebootAndDelete)", KillInstantly: "Killed for good (KillInstantly)" };
+const GROUPS = {
+  machineid: "machines", zoneid: "zones", data_hall: "data halls", dcid: "data centres",
+};
+const LOSSES = {
+  RebootAndDelete: "Emptied (RebootAndDelete)", KillInstantly: "Killed for good (KillInstantly)",
+};
 
 /** What may be lost by one kind. */
 function lossInWords(loss) {
@@ -105,7 +112,8 @@ function lossInWords(loss) {
     .map((it) => `Too many by ${it.policy}: ${it.too_many.join(" ")}`);
   const groups = loss.groups.filter((it) => it.values)
     .map((it) => `Single ${GROUPS[it.key]} that may be: ${it.alone.join(" ") || "none"}`);
-  return [make("h3", "", LOSSES[loss.kind]), ...[more, ...lines, ...groups].map((it) => make("p", "", it))];
+  const parts = [more, ...lines, ...groups].map((it) => make("p", "", it));
+  return [make("h3", "", LOSSES[loss.kind]), ...parts];
 }
 
 async function showLosses() {
@@ -130,9 +138,13 @@ const PARTS = `
   .legend, .names { position: sticky; left: 0; background: var(--paper); }
   .legend { overflow-x: auto; }
   .times { display: flex; width: max-content; }
-  @media (max-width: 50rem) { .names { left: -165px; } } /* Of a narrow page the names of processes alone stay. */`;
+  /* Of a narrow page the names of processes alone stay. */
+  @media (max-width: 50rem) { .names { left: -165px; } }`;
 
-/** The picture in parts: its legend and the names of its rows stay where they are while its times scroll. */
+/**
+ * The picture in parts: its legend and the names of its rows stay where they are while its times
+ * scroll.
+ */
 function partsOf(picture) {
   const rows = [...picture.querySelectorAll(".row rect")];
   const left = Math.min(...rows.map((it) => number(it, "x")));
@@ -140,8 +152,10 @@ function partsOf(picture) {
   const top = number(picture.querySelector(".axis + text"), "y") - 12;
   const words = picture.querySelector(".order-in-words"); // The last orders stand above.
   const height = (words ? number(words, "y") - 25 : number(picture, "height")) - top;
-  const names = [...picture.querySelectorAll("text")].filter((it) => !it.closest(".legend") && number(it, "x") < left);
-  const legend = make("div", "legend", part(picture, [0, 0, 980, 44], picture.querySelectorAll(".legend")));
+  const texts = [...picture.querySelectorAll("text")].filter((it) => !it.closest(".legend"));
+  const names = texts.filter((it) => number(it, "x") < left);
+  const legends = picture.querySelectorAll(".legend");
+  const legend = make("div", "legend", part(picture, [0, 0, 980, 44], legends));
   const still = make("div", "names", part(picture, [0, top, left, height], names));
   return [legend, make("div", "times", still, part(picture, [left, top, right - left, height]))];
 }
@@ -151,7 +165,8 @@ async function showPicture() {
   const picture = new DOMParser().parseFromString(text, "image/svg+xml").documentElement;
   // The styles of the picture stay in it.
   const root = at("picture").shadowRoot || at("picture").attachShadow({ mode: "open" });
-  const atEnd = at("picture").scrollLeft + at("picture").clientWidth >= at("picture").scrollWidth - 4;
+  const shown = at("picture");
+  const atEnd = shown.scrollLeft + shown.clientWidth >= shown.scrollWidth - 4;
   root.replaceChildren(make("style", "", PARTS), ...partsOf(document.importNode(picture, true)));
   if (atEnd) at("picture").scrollLeft = at("picture").scrollWidth;
 }
@@ -169,7 +184,9 @@ function soon(pause, look, where) {
       try {
         await look();
       } catch (error) {
-        if (where && !(error instanceof NoToken)) at(where).replaceChildren(make("p", "none", error.message));
+        if (where && !(error instanceof NoToken)) {
+          at(where).replaceChildren(make("p", "none", error.message));
+        }
       }
       await new Promise((done) => setTimeout(done, pause));
     }
@@ -181,7 +198,9 @@ const stateSoon = soon(STATE_PAUSE, showState);
 const lossesSoon = soon(PICTURE_PAUSE, showLosses, "losses");
 const pictureSoon = soon(PICTURE_PAUSE, showPicture);
 
-/** Shows each entry that comes, and answers the number behind the last one once the server is gone. */
+/**
+ * Shows each entry that comes, and answers the number behind the last one once the server is gone.
+ */
 async function follow(from) {
   const answer = await ask(`v1/events?from=${from}`);
   const reader = answer.body.pipeThrough(new TextDecoderStream()).getReader();
