@@ -1,5 +1,6 @@
 (ns guarded
-  "What a nemesis of Jepsen asks faultyard-serve before each kill. It needs Java 11, and nothing else.
+  "What a nemesis of Jepsen asks faultyard-serve before each kill. It needs Java 11, and nothing
+  else.
 
   In invoke!: (struck url node :RebootAndDelete) says what to do to the node. Put it into the
   operation's value. Tell (up url number) once the node's process runs again."
@@ -23,8 +24,8 @@
       answer)))
 
 (defn act
-  "Asks for an act, and answers the line of its entry. Without an answer it asks again, once a second
-  for a minute: by its key the act is made once."
+  "Asks for an act, and answers the line of its entry. Without an answer it asks again, once a
+  second for a minute: by its key the act is made once."
   [url line]
   (let [key (str (UUID/randomUUID))]
     (loop [tries 60]
@@ -35,7 +36,8 @@
               :else (throw (ex-info (.body answer) {:status (.statusCode answer)})))))))
 
 (defn struck
-  "Orders a kill of a node by actor 1. Answers the kind that struck, or nil: then nothing may be done."
+  "Orders a kill of a node by actor 1. Answers the kind that struck, or nil: then nothing may be
+  done."
   [url node kind]
   (let [order (str "{\"by\":1,\"act\":{\"kill\":{\"key\":\"processid\",\"value\":\"" node
                    "\",\"kind\":\"" (name kind) "\",\"floor\":\"RebootProcess\",\"tear\":0}}}")]

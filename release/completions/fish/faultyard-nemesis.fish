@@ -3,12 +3,16 @@
 complete -c faultyard-nemesis -s h -l help -d "Print help"
 complete -c faultyard-nemesis -l seed -x -d "The orders are drawn from this seed"
 complete -c faultyard-nemesis -l seconds -x -d "How long records are written"
-complete -c faultyard-nemesis -l plan -x -a "mixed attrition swizzle rolling blackout partition" -d "How orders are drawn"
+complete -c faultyard-nemesis -l plan -x -a "mixed attrition swizzle rolling blackout partition" \
+    -d "How orders are drawn"
 complete -c faultyard-nemesis -l kinds -x -d "How often each kind is drawn"
-complete -c faultyard-nemesis -l pauses -x -d "Pauses between orders of mixed, blackout and partition"
+complete -c faultyard-nemesis -l pauses -x \
+    -d "Pauses between orders of mixed, blackout and partition"
 complete -c faultyard-nemesis -l replay -r -d "Do the orders of this events.jsonl"
-complete -c faultyard-nemesis -l disks -x -a "ext4 xfs lossy" -d "A disk for each process, whose power a Reboot cuts"
-complete -c faultyard-nemesis -l tear -x -a "none draw" -d "What a power cut keeps of what was unsynced"
+complete -c faultyard-nemesis -l disks -x -a "ext4 xfs lossy" \
+    -d "A disk for each process, whose power a Reboot cuts"
+complete -c faultyard-nemesis -l tear -x -a "none draw" \
+    -d "What a power cut keeps of what was unsynced"
 complete -c faultyard-nemesis -l deaf-disks -d "Syncs do nothing"
 complete -c faultyard-nemesis -l net -d "A host for each process, whose cable a Clog pulls"
 complete -c faultyard-nemesis -l clog -x -a "both out in" -d "What a Clog loses with --net"
