@@ -1,5 +1,7 @@
 -- turns one after another
-use Rattle.std.proofs.Common.{arith, ◌≡◌, ◌∙◌, ◌+◌, ℕ, suc, List, ap, subst}
+use Rattle.std.proofs.Common.{arith, ◌≡◌, ◌∙◌, ◌+◌, ℕ, suc, List, Ok, Err, ap, subst}
+use Rattle.std.specs.Prelude.{Result, OnOk}
+use Rattle.std.specs.Result.{result_or}
 use Rattle.fy_acts.specs.declared.entry.Entry.{Entry}
 use Rattle.fy_audit.specs.AuditText.{audit_text}
 use Rattle.fy_acts.specs.declared.version.Version.{Version}
@@ -18,6 +20,11 @@ pub one_more : (lots : List ℕ) (start was now : Stage) (n : ℕ) → Turns lot
 one_more lots start was now n turns one =
     subst (λ (m : ℕ). Turns lots start m now) (let e : suc n ≡ n + 1 = omega arith in e)
     (Turns.more n was now turns one)
+
+-- what holds where a turn is taken holds where a turn is taken or else an allocation failed
+pub held_past : {T E D : Type 0} (P : Type 0) (r : Result T E) (refused : D) (x : T) → OnOk r P → Ok x ≡ result_or r (Err refused) → P
+held_past P (Ok y) refused x holds is = holds
+held_past P (Err fault) refused x holds is = let bad : ⊥ = cc in absurd bad
 
 -- the audit of a simulated journal
 pub has_audit : (c : Setup) (seed : ℕ) (plan : Plan) (acts : ℕ) (journal : List Entry) (version : Version) (entries : List Entry) (P : List ℕ → Type 0)

@@ -166,9 +166,8 @@ fn play(
     let limit = u64::from(config.journal_limit());
     let count = acts.min(limit);
     for _ in 0..count {
-        let Ok(()) = simulation.turn() else {
-            return Err(AllocError);
-        };
+        // The journal has room for each turn: only an allocation can fail.
+        simulation.turn().or(Err(AllocError))?;
     }
     let cluster = simulation.into_cluster();
     cluster.survives();
@@ -205,11 +204,6 @@ pub fn run_simulate<W: Write>(
         (AppendsProperPrefix (W.contents writer.old) (W.contents writer.new)) }
     ensures no_other { IfErr result IsOutputStop }
 {
-    let Ok(cluster) = play(alloc, config, seed, plan, acts) else {
-        return Err(Stop::NoMemory);
-    };
-    match write_audit(alloc, cluster.journal(), writer) {
-        Ok(done) => Ok(done),
-        Err(stop) => Err(stop),
-    }
+    let cluster = play(alloc, config, seed, plan, acts)?;
+    write_audit(alloc, cluster.journal(), writer)
 }

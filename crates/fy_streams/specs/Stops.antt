@@ -164,6 +164,11 @@ abbrev pub script_stop : ScriptFault → Stop
 script_stop script.NoMemory = NoMemory
 script_stop fault = Script fault
 
+-- the stop for a file of events that is refused
+abbrev pub events_stop : EventsFault → Stop
+events_stop events.NoMemory = NoMemory
+events_stop fault = Events fault
+
 -- the stop for an input of which not all can be read, where one stands for too many bytes
 abbrev pub input_stop : Stop → InputFault → Stop
 input_stop too_long input.TooLong = too_long

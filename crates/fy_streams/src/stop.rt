@@ -105,6 +105,19 @@ impl From<ScriptFault> for Stop {
     }
 }
 
+impl From<EventsFault> for Stop {
+    ghost use Rattle.fy_streams.specs.Stops.{events_stop};
+
+    ghost from_gives = { λ fault stop. stop ≡ events_stop fault };
+
+    fn from(fault: EventsFault) -> Stop {
+        match fault {
+            EventsFault::NoMemory => Stop::NoMemory,
+            fault => Stop::Events { fault },
+        }
+    }
+}
+
 impl From<AllocError> for Stop {
     ghost use Rattle.fy_streams.specs.declared.stop.Stop.TheVariants.{NoMemory};
 

@@ -1,5 +1,5 @@
 use Rattle.std.proofs.Common.{arith, ◌≡◌, ◌∙◌, ◌<◌, ℕ, List, length, sym, ap, subst}
-use Rattle.std.specs.Prelude.{min}
+use Rattle.std.specs.Prelude.{min, OnOk, alloc_error}
 use Rattle.std.specs.List.{All}
 use Rattle.fy_cluster.specs.Setup.{Setup}
 use Rattle.fy_cluster.specs.Survival.{Survives}
@@ -7,7 +7,7 @@ use Rattle.fy_cluster.specs.Execution.{Execution}
 use Rattle.fy_simulate.specs.Simulate.{Stage, lots_from, opening, stage_of, OneTurn, Turns}
 use Rattle.fy_simulate.proofs.Opening.{players_count, lots_some, lots_within, roles_some}
 use Rattle.fy_simulate.proofs.Ordered.{are_orders}
-use Rattle.fy_simulate.proofs.Turning.{setup_kept, one_more}
+use Rattle.fy_simulate.proofs.Turning.{setup_kept, one_more, held_past}
 use Rattle.fy_simulate.proofs.simulate.play.Goals as goal
 
 pub loop-init : goal.loop-init
@@ -46,12 +46,18 @@ loop-preserved c =
     let was = stage_of c.loop.simulation in
     let now = stage_of c.turn.new.self in
     let inv = c.loop.invariant in
-    let took = c.in-Ok.ensures in
-    let one = subst (λ (xs : List ℕ). OneTurn xs was now) inv.lots took.taken in
+    let past : (P : Type 0) → OnOk c.turn.result P → P =
+    λ P holds. held_past P c.turn.result alloc_error c.in_ok-or.field-0 holds
+    (sym c.in_ok-or.was ∙ c.or.ensures) in
+    let took = c.turn.ensures in
+    let kept = past (c.turn.new.self.lots.items ≡ c.loop.simulation.lots.items) took.lots in
+    let one = subst (λ (xs : List ℕ). OneTurn xs was now) inv.lots
+    (past (OneTurn c.loop.simulation.lots.items was now) took.taken) in
     record {
       within = omega arith;
-      lots = took.lots ∙ inv.lots;
-      players = took.count ∙ inv.players;
+      lots = kept ∙ inv.lots;
+      players = past (length c.turn.new.self.players.items
+          ≡ length c.loop.simulation.players.items) took.count ∙ inv.players;
       setup = setup_kept lots was now one ∙ inv.setup;
       turns = one_more lots start was now c.loop.counter inv.turns one;
     }
