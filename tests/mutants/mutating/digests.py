@@ -276,22 +276,26 @@ def renamed_by(block):
     ]
 
 
+def is_used(name, words, text):
+    """Whether a text with these words uses what an import brings under a name."""
+    pieces = [it for it in name.split("◌") if it]
+    return name == "*" or all(it in words or not it.isidentifier() and it in text for it in pieces)
+
+
 def with_imports(parts, imports):
-    """Adds to each part the imports whose names it uses."""
+    """Adds to each part, and to its body, the imports whose names it uses: who calls a function
+    depends on what it says alone."""
     brought = [it for block in imports for it in brought_by(block)]
     for part in parts:
-        words, text = part.words | set(WORD.findall(part.body)), part.text + part.body
-        used = []
-        for name, said in brought:
-            pieces = [it for it in name.split("◌") if it]
-            if name == "*" or all(
-                it in words or not it.isidentifier() and it in text for it in pieces
-            ):
-                used.append(said)
-                # another name for it names it too
-                if " as " in said:
-                    part.words |= words_in(said)
-        part.text = "\n".join([*sorted(used), part.text])
+        said = {it for name, it in brought if is_used(name, part.words, part.text)}
+        done = {
+            it for name, it in brought if is_used(name, set(WORD.findall(part.body)), part.body)
+        }
+        # another name for it names it too
+        part.words |= words_in("\n".join(it for it in said if " as " in it))
+        part.text = "\n".join([*sorted(said), part.text])
+        if part.body:
+            part.body = "\n".join([*sorted(done - said), part.body])
         part.imports = brought
     return parts
 
