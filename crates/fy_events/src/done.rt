@@ -16,8 +16,8 @@ fn struck_done(struck: Option<Kind>) -> Done
     }
 }
 
-/// What the reply to a kill or a clog says is done.
-fn answered(entry: &Entry) -> Option<Done>
+/// What the reply to a kill or a clog says is done; `None` of any other entry.
+pub fn answered(entry: &Entry) -> Option<Done>
     ensures { result ≡ answered entry.now.act entry.now.reply }
 {
     match entry.act {

@@ -80,8 +80,9 @@ fn done_from(value: &Value<'_>) -> Option<Done>
     done_named(value.as_str()?)
 }
 
-/// What an event says was done.
-fn done_of(value: Option<&Value<'_>>) -> Option<Done>
+/// What was done, as the member `does` of an event says it: nothing of it where there is no such
+/// member. `None` where it says neither null nor a kind.
+pub fn done_of(value: Option<&Value<'_>>) -> Option<Done>
     ensures { result ≡ done_of (option_map (λ found. value_view found.now) value.entry) }
 {
     match value {

@@ -10,8 +10,8 @@ pub mod laws;
 mod micros;
 
 pub use columns::{TimeColumns, columns_by_time, events_before};
-pub use done::differs;
-pub use event::{Done, Event, EventFault};
+pub use done::{answered, differs};
+pub use event::{Done, Event, EventFault, done_of};
 pub use events::{EventsFault, read_events};
 
 /// How many bytes a file of events may have: 268,435,456.
