@@ -14,6 +14,7 @@ from .cluster_file import Actor, ClusterFile
 from .enums import Key, Kind, Part, Plan, Refusal, Role, Rule
 from .errors import (
     ActRefused,
+    AuditExists,
     AuditRefused,
     ConfigRefused,
     FaultyardError,
@@ -48,6 +49,7 @@ from .transport import Borne, Sight, State
 __all__ = [
     "ActRefused",
     "Actor",
+    "AuditExists",
     "AuditRefused",
     "Begun",
     "Borne",

@@ -89,6 +89,13 @@ class NotOffered(FaultyardError, NotImplementedError):
     """This transport can't answer the question, or not on this Python."""
 
 
+class AuditExists(FaultyardError, FileExistsError):
+    """The `audit` of the folder isn't this guard's to write, and is left as it was.
+
+    It has entries that the guard doesn't go on from, or another guard holds it.
+    """
+
+
 class AuditRefused(FaultyardError, ValueError):
     """`faultyard check` doesn't confirm an audit. `fault` is its line, `status` its exit status."""
 

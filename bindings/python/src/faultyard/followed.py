@@ -2,23 +2,19 @@
 
 from __future__ import annotations
 
-import os
+import io
 import tempfile
 from pathlib import Path
-from typing import IO, Any, Dict, FrozenSet, List, Mapping, Optional, Sequence
+from typing import Any, Dict, FrozenSet, List, Mapping, Optional, Sequence
 
 from . import acts
 from .enums import Key, Kind, Plan
 from .errors import InvalidAct, NotOffered
+from .kept import Kept
 from .programs import StrPath, answer_after, bears
 from .replies import Refused, Reply, Verdict, read_entry
 from .states import States
 from .transport import Borne, Sight, State, Transport
-
-
-def open_audit(folder: StrPath) -> IO[bytes]:
-    """The file of an audit in a folder; an entry is there before its verdict is carried out."""
-    return open(os.path.join(folder, "audit"), "wb", buffering=0)
 
 
 class Followed(Transport):
@@ -31,7 +27,13 @@ class Followed(Transport):
         self._audit: List[bytes] = []
         self._states: Optional[States] = None
         self._followed = 0
-        self._kept: Optional[IO[bytes]] = None
+        self._kept: Optional[Kept] = None
+
+    def _go_on(self, journal: bytes) -> None:
+        """Begins with this journal."""
+        self._audit = io.BytesIO(journal).readlines()
+        if self._kept is not None:
+            self._kept.begin()
 
     def _keep(self, text: bytes) -> None:
         self._audit.append(text)

@@ -83,8 +83,11 @@ class Guard:
         `config` is the path of a cluster file. Over `"pipe"`, `program` is the path of `faultyard`
         (else FAULTYARD, else the one on PATH), and a guard that doesn't answer within `timeout`
         seconds is ended. What it writes goes into `folder` at once, into `audit` and `guard.log`,
-        so that both are there whatever ends the test. Over `"library"`, `library` is the path of
-        libfaultyard.so (else FAULTYARD_LIB, else what the system's loader finds).
+        so that both are there whatever ends the test. An `audit` that stands there is appended to,
+        and never cut. It has to be the beginning of the guard's journal, as with `after`, or to
+        have no entry: else `AuditExists` is raised, and nothing changed. Over `"library"`,
+        `library` is the path of libfaultyard.so (else FAULTYARD_LIB, else what the system's loader
+        finds).
 
         `server` is the path of a socket, or the URL, of a `faultyard-serve` with this cluster file,
         and `tokens` are those of the actors by which it is asked. Others may ask it too, and their
@@ -93,7 +96,8 @@ class Guard:
 
         `after` is the path of an audit, behind which the guard goes on: its journal is that of the
         audit. An audit that is refused raises `AuditRefused` over `"library"`; over `"pipe"` it
-        ends the guard, which the first act raises as `GuardEnded`. The file isn't written to.
+        ends the guard, which the first act raises as `GuardEnded`. The file isn't written to, but
+        where it is the `audit` of `folder`.
         """
         made = _open(config, transport, program, library, timeout, folder, server, tokens, after)
         self._hold(made)

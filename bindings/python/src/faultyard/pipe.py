@@ -9,11 +9,12 @@ import tempfile
 import time
 import weakref
 from contextlib import ExitStack
-from typing import IO, List, Optional
+from typing import IO, Optional
 
 from .errors import ConfigRefused, FaultyardError, GuardEnded, JournalFull, OutOfMemory
 from .errors import ProtocolError
-from .followed import Followed, open_audit
+from .followed import Followed
+from .kept import Kept
 from .programs import StrPath, find_program
 from .transport import HEADER
 
@@ -46,10 +47,10 @@ class Pipe(Followed):
         after: Optional[StrPath] = None,
     ):
         super().__init__(config, program)
-        before: List[bytes] = []
+        before = HEADER
         if after is not None:
             with open(after, "rb") as file:
-                before = file.readlines()
+                before = file.read()
         self._timeout = timeout
         self._pending = b""
         self._end: Optional[GuardEnded] = None
@@ -57,7 +58,7 @@ class Pipe(Followed):
         words += [] if after is None else ["--after", os.fspath(after)]
         self._files = ExitStack()
         try:
-            self._open_files(folder)
+            self._open_files(folder, before)
             # In a session of its own, Ctrl-C at a terminal ends the test and not its guard.
             self._process = subprocess.Popen(
                 words,
@@ -74,25 +75,22 @@ class Pipe(Followed):
         assert self._process.stdin is not None and self._process.stdout is not None
         self._stdin, self._stdout = self._process.stdin, self._process.stdout
         os.set_blocking(self._stdin.fileno(), False)
-        if after is None:
-            self._begin()
-        for entry in before:
-            self._keep(entry)
+        self._begin(before, after is None)
 
-    def _open_files(self, folder: Optional[StrPath]) -> None:
+    def _open_files(self, folder: Optional[StrPath], before: bytes) -> None:
         if folder is None:
             self._errors: IO[bytes] = self._files.enter_context(tempfile.TemporaryFile())
             return
+        self._kept = Kept(folder, before)
+        self._files.callback(self._kept.close)
         self._errors = self._files.enter_context(open(os.path.join(folder, "guard.log"), "w+b"))
-        self._kept = self._files.enter_context(open_audit(folder))
 
-    def _begin(self) -> None:
-        """Reads the header, which is there before anything is sent."""
+    def _begin(self, before: bytes, has_header: bool) -> None:
+        """Reads the header, which a new guard writes before anything is sent."""
         try:
-            header = self._hear()
-            if header != HEADER:
+            if has_header and (header := self._hear()) != HEADER:
                 raise ProtocolError(f"{self._process.args!r} began with {header!r}")
-            self._keep(header)
+            self._go_on(before)
         except BaseException:
             self._abandon("the guard didn't begin")
             self._files.close()
@@ -104,14 +102,21 @@ class Pipe(Followed):
         try:
             self._tell(text)
             answer = self._hear()
+            self._expect_next(answer)
+            self._keep(answer)
         except FaultyardError:
             raise
         except BaseException:
             # The answer that was waited for would be taken for the next line's.
-            self._abandon("a call was interrupted before its answer was read")
+            self._abandon("a call was interrupted before its answer was kept")
             raise
-        self._keep(answer)
         return answer
+
+    def _expect_next(self, answer: bytes) -> None:
+        """An audit that grew before the program read it isn't the one that was read here."""
+        if b',"at":%d,"by":' % self.journal_len() not in answer:
+            self._abandon("an entry was answered out of its place")
+            raise ProtocolError(f"entry {self.journal_len()} was answered {answer!r}")
 
     def close(self) -> None:
         if self._end is None:
@@ -175,6 +180,8 @@ class Pipe(Followed):
             self._finalizer()
         self._stdin.close()
         self._stdout.close()
+        if self._kept is not None:
+            self._kept.close()
         self._errors.seek(0)
         # A second line says where an audit that is cut is whole.
         fault = self._errors.read(MOST_FAULT).decode(errors="replace").strip().partition("\n")[0]

@@ -14,7 +14,8 @@ from typing import Callable, List, Mapping, NoReturn, Optional, Set, TypeVar
 from urllib.parse import urlsplit
 
 from .errors import GuardEnded, InvalidAct, JournalFull, ProtocolError
-from .followed import Followed, open_audit
+from .followed import Followed
+from .kept import Kept
 from .programs import StrPath
 from .replies import Entry, read_entry
 from .transport import HEADER
@@ -49,11 +50,19 @@ class Served(Followed):
         self._door: _Door = _Lines(server, timeout)
         if server.startswith(("http://", "https://")):
             self._door = _Web(server, tokens or {}, timeout)
-        if folder is not None:
-            self._kept = open_audit(folder)
-        self._keep(HEADER)
+        self._go_on(HEADER)
         self._fetch()
+        if folder is not None:
+            self._keep_in(folder)
         self._told = self.journal_len()
+
+    def _keep_in(self, folder: StrPath) -> None:
+        try:
+            self._kept = Kept(folder, self.audit())
+            self._kept.begin()
+        except BaseException:
+            self._door.close()
+            raise
 
     def exchange(self, text: bytes) -> bytes:
         key = uuid.uuid4().hex
