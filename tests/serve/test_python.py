@@ -47,6 +47,14 @@ class Guards(Case):
                 self.assertEqual(guard.others(), [])
         self.assertEqual(server.check(), f"legal {len(server.lines())}")
 
+    def test_the_audit_of_the_server_is_left_to_it(self):
+        server = self.server().start()
+        server.talk().ask(up(0))
+        before = server.file.read_bytes()
+        with self.assertRaisesRegex(faultyard.AuditExists, "held by another guard"):
+            Guard(server.config, server=str(server.socket), folder=server.file.parent)
+        self.assertEqual(server.file.read_bytes(), before)
+
     def test_a_full_journal_a_wrong_token_and_no_server(self):
         path = common.written(self.folder, "tokens", "")
         path.chmod(0o600)

@@ -283,6 +283,7 @@ final class GuardTest {
     private void cases() throws Exception {
         verdicts();
         goesOn();
+        readsLate();
         refusals();
         arguments();
         replies();
@@ -329,12 +330,49 @@ final class GuardTest {
             } catch (Guard.GuardEnded ended) {
                 check(ended.fault().equals(it.getValue()), "a refused audit: " + ended.fault());
             }
+            check(Files.readString(audit).equals(it.getKey()), "the file of a refused audit");
         }
         try {
             Guard.after(config, folder.resolve("none"), program, patience);
             check(false, "no audit");
         } catch (Guard.GuardEnded ended) {
             check(true, "no audit");
+        }
+    }
+
+    /** A program that reads late reads all, and an audit that grew meanwhile ends the guard. */
+    private void readsLate() throws Exception {
+        Path gate = folder.resolve("gate");
+        Path late = folder.resolve("late");
+        Path audit = folder.resolve("late.audit");
+        new ProcessBuilder("mkfifo", gate.toString()).start().waitFor();
+        Files.writeString(late,
+            "#!/bin/sh\nread line < " + gate + "\nexec " + program + " \"$@\"\n");
+        late.toFile().setExecutable(true);
+        try (Guard one = new Guard(config, program)) {
+            one.kill(1, Guard.Key.ZONE, "z0", Guard.Kind.KILL_INSTANTLY);
+            String before = one.audit();
+            one.tick(0, 1);
+            for (String stands : List.of(before, one.audit())) {
+                Files.writeString(audit, before);
+                try (Guard guard =
+                    Guard.after(config, audit, late.toString(), Duration.ofMinutes(1))) {
+                    check(Files.readString(audit).equals(before), "the file that is read late");
+                    Files.writeString(audit, stands);
+                    Files.writeString(gate, "\n");
+                    readsLate(guard, stands.equals(before));
+                    check(Files.readString(audit).equals(stands), "the file that was read late");
+                }
+            }
+        }
+    }
+
+    private void readsLate(Guard guard, boolean isSame) {
+        try {
+            guard.kill(1, Guard.Key.ZONE, "z1", Guard.Kind.KILL_INSTANTLY);
+            check(isSame && guard.isDestroyed(0) && !guard.isDestroyed(2), "an audit read late");
+        } catch (Guard.GuardEnded ended) {
+            check(!isSame, "an audit that grew: " + ended);
         }
     }
 

@@ -59,7 +59,10 @@ func after(audit []byte) (Guard, error) {
 }
 
 // open opens the book anew.
-func (its *kept) open() (*Book, error) {
+func (its *kept) open() (*Book, error) { return its.openAfter(after) }
+
+// openAfter opens the book anew by this guard.
+func (its *kept) openAfter(after func(audit []byte) (Guard, error)) (*Book, error) {
 	return Open(Files{
 		Audit:   its.path,
 		Cluster: "two.toml",
@@ -155,6 +158,22 @@ func TestEveryFrontOfAnAuditIsGoneOnWith(test *testing.T) {
 		isHalf := length > 0 && whole[length-1] != '\n'
 		same(test, fmt.Sprintf("%d: is said to be cut", length), len(its.said) == 1, isHalf)
 		same(test, "the next answer", string(ask(book, up(5, "")).Line), entry(count, 5))
+		_ = book.Close()
+	}
+}
+
+func TestNothingIsCutBeforeTheGuardHasTheAudit(test *testing.T) {
+	whole := Header + entry(0, 3)
+	for _, text := range []string{Header[:5], whole, whole + entry(1, 4)[:20]} {
+		its := begin(test)
+		its.write(its.path, text)
+		book, err := its.openAfter(func(audit []byte) (Guard, error) {
+			same(test, "the file that the guard goes on from", its.read(its.path), text)
+			return after(audit)
+		})
+		if err != nil {
+			test.Fatal(err)
+		}
 		_ = book.Close()
 	}
 }
