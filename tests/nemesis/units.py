@@ -10,10 +10,11 @@ from unittest.mock import patch
 
 from faultyard.enums import Kind
 from faultyard.ledger import Heal, Loss, Record
-from nemesis import HOOK, Fault, checks, store, summary
+from nemesis import HOOK, Fault, checks, clients, store, summary
+from nemesis.clients import Clients
 from nemesis.crashes import Crashes
 from nemesis.evidence import Case, Course
-from nemesis.history import Operation
+from nemesis.history import History, Operation
 from nemesis.hook_log import HookLog
 from nemesis.main import rising
 from nemesis.store import Store
@@ -409,6 +410,126 @@ class Histories(unittest.TestCase):
         operation.fail("?")
         operation.ok(VALUE)
         self.assertEqual((operation.type, operation.value, operation.error), ("ok", VALUE, None))
+
+    def lines(self, happens):
+        """The lines of what happens, a nanosecond for each look at the clock."""
+        ledger = unittest.mock.Mock(now_ns=itertools.count().__next__)
+        with tempfile.TemporaryDirectory() as folder:
+            history = History(Path(folder, "history"), ledger)
+            happens(history)
+            history.flush()
+            return [json.loads(line) for line in Path(folder, "history").read_text().splitlines()]
+
+    def test_each_thing_that_happens_has_its_line(self):
+        def happens(history):
+            client = history.client()
+            with history.write(client, KEY, VALUE) as operation:
+                history.answered(0)
+                history.answered(3, does="RebootAndDelete")
+                operation.unknown("no")
+            history.written()
+            history.salvaged(2, [(KEY, VALUE), ("own", "b"), ("?", "?")], is_all=False)
+            history.salvaged(1, [], is_all=True)
+            history.looked_through(0, {KEY})
+
+        write = {"process": 0, "f": "write", "value": [KEY, VALUE]}
+        disk = {"f": "salvage", "type": "told", "node": 2, "value": [KEY, VALUE]}
+        expected = [
+            write | {"type": "invoke"},
+            {"f": "entry", "value": 0},
+            {"f": "entry", "value": 3, "does": "RebootAndDelete"},
+            write | {"type": "info", "error": "no"},
+            {"f": "written"},
+            disk,
+            {"f": "salvage", "type": "some", "node": 2},
+            {"f": "salvage", "type": "all", "node": 1},
+            {"f": "plain", "type": "told", "node": 0, "value": [KEY, None]},
+            {"f": "plain", "type": "all", "node": 0},
+        ]
+        numbered = [{"index": n, "time": n} | line for n, line in enumerate(expected)]
+        self.assertEqual(self.lines(happens), numbered)
+
+    def test_a_read_of_all_begins_before_what_happens_meanwhile(self):
+        keys = [f"r/00000000{number}" for number in range(1, 5)]
+
+        def happens(history):
+            for key in keys[:2]:
+                with history.write(history.client(), key, VALUE) as operation:
+                    operation.ok(VALUE)
+            with history.reading():
+                history.answered(0)  # and `read` says no
+            with history.reading() as reading:
+                history.answered(1)
+                told = [(keys[2], "x"), (keys[2], "y"), (keys[3], "z"), (keys[3], "z"), ("own", "")]
+                history.read_all(reading, [*told, (keys[1], VALUE)])
+
+        lines = self.lines(happens)[4:]
+        self.assertEqual([it["index"] for it in lines], [*range(4, 16)])
+        self.assertEqual(lines[0]["value"], 0)
+        begun, entry, ended = lines[1:6], lines[6], lines[7:]
+        self.assertEqual((entry["f"], entry["value"]), ("entry", 1))
+        self.assertEqual([it["value"] for it in begun], [[keys[n], None] for n in (0, 1, 2, 2, 3)])
+        values = [[keys[0], None], [keys[1], VALUE], [keys[2], "x"], [keys[2], "y"], [keys[3], "z"]]
+        self.assertEqual([it["value"] for it in ended], values)
+        self.assertEqual([it.get("times") for it in ended], [None] * 4 + [2])
+        self.assertEqual({it["node"] for it in begun + ended}, {None})
+        self.assertEqual([it["process"] for it in begun], [it["process"] for it in ended])
+        times = [it["time"] for it in lines]
+        self.assertEqual(times, sorted(times))
+        self.assertLess(begun[0]["time"], entry["time"])
+
+
+class Lacking(unittest.IsolatedAsyncioTestCase):
+    """What a process lacks at the end is asked for until a minute has passed since it was first
+    asked for, whatever a hook may take."""
+
+    async def checked(self, *answers, limit=2.0):
+        """What is found of keys, each with the second from which on it is told; and when it was
+        asked for. A negative second: it isn't answered for from then on."""
+        self.now, self.asked = 7.0, {f"r/{number}": [] for number in range(len(answers))}
+        it = Clients.__new__(Clients)
+        it.hooks = unittest.mock.Mock(limit=limit)
+        it.history, it.is_whole = unittest.mock.Mock(), lambda number: True
+        since = dict(zip(self.asked, answers))
+
+        async def each(client, number, keys):
+            found = {}
+            for key in keys:
+                self.now += 0.25
+                self.asked[key].append(self.now)
+                told, began = since[key], int(self.now * 1e9)
+                found[key] = operation = read(VALUE if 0 <= told <= self.now else None, began, key)
+                if told < 0 and self.now >= -told:
+                    operation.fail("?")
+            return found
+
+        async def sleep(seconds):
+            self.now += seconds
+
+        it._check_each = each
+        with patch.multiple(clients, asyncio=unittest.mock.Mock(sleep=sleep)):
+            return await it.check_all(1, list(self.asked))
+
+    async def test_it_is_asked_for_until_it_is_told(self):
+        for limit in (0.1, 100.0):
+            found = await self.checked(0, 50, limit=limit)
+            self.assertEqual(found, {"r/0": VALUE, "r/1": VALUE})
+            self.assertEqual(len(self.asked["r/0"]), 1)
+            *before, last = self.asked["r/1"]
+            self.assertLess(before[-1], 50)
+            self.assertGreaterEqual(last, 50)
+
+    async def test_it_lacks_what_it_lacks_a_minute_later(self):
+        found = await self.checked(0, 1e9, 1e9)
+        self.assertEqual(found, {"r/0": VALUE, "r/1": None, "r/2": None})
+        for key in ("r/1", "r/2"):
+            first, *_, before, last = self.asked[key]
+            self.assertLess(before - first, 60)
+            self.assertGreaterEqual(last - first, 60)
+
+    async def test_it_does_not_lack_what_it_does_not_answer_for_in_the_end(self):
+        self.assertEqual(await self.checked(0, -30), {"r/0": VALUE})
+        self.assertEqual(await self.checked(0, -1), {"r/0": VALUE})
 
 
 class Events(unittest.TestCase):

@@ -188,7 +188,7 @@ class HookCheck:
                 await self._look_through(number, copy, before)
             if (text := await self.hooks.salvage(number, copy)) is None:
                 raise wrong(f"{self.hooks.ends[number]}; hooks.log may say why")
-            if lacks := lacking(pairs(f"salvage {number}", text), before):
+            if lacks := lacking(dict(pairs(f"salvage {number}", text)), before):
                 raise self._wrong_whole(number, "salvage", lacks, before)
 
     async def _look_through(self, number: int, copy: Path, before: Records) -> None:
@@ -221,7 +221,12 @@ class HookCheck:
         """The records that `read` lacks."""
         if (found := await self.clients.read(is_noted=False)) is None:
             raise wrong(f"nothing could be read, though all is up: {self.hooks.ends['read']}")
-        return [key for key, value in known.items() if found.get(key) != value]
+        values: dict[str, str] = {}
+        for key, value in found:
+            if (other := values.setdefault(key, value)) != value:
+                text = f"`read` told {key} twice, as {other} and as {value}"
+                raise wrong(f"{text}: `read` is wrong, or the store is")
+        return lacking(values, known)
 
     async def _told(self, number: int, known: Records) -> dict[str, str | None]:
         """What a process tells by `check` of the newest records, once it had time for all."""

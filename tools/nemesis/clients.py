@@ -3,12 +3,14 @@ import asyncio
 import time
 from asyncio.subprocess import PIPE, Process
 from collections.abc import Awaitable, Callable
+from contextlib import suppress
 from random import Random
 
 from faultyard.harness import Harness
 
 from . import HOOK, Fault
 from .history import PREFIX, Client, History, Operation
+from .hook_log import MOST
 from .hooks import Hooks
 
 MUTE = 20  # so often in a row may a client end or hang without any answer
@@ -17,10 +19,14 @@ AGAIN = 0.1  # seconds until another client runs where one ended
 REFUSED = 0.05  # seconds until a writer goes on that was told no
 READ_PAUSE = 0.01  # seconds between two reads of a reader
 LAGS = 0.5  # seconds until a process is asked again at the end for what it lacks
+MINUTE = 60_000_000_000  # nanoseconds after which it is asked for that for the last time
+LISTENS = 100  # after each so manyth answer nothing is asked for a moment
+MOMENT, SECOND = 0.005, 1.0  # seconds that this takes, at least and at most
 EACH = 0.01  # seconds for each record of those that a process is asked for at the end
 NEWEST = 10  # of the acknowledged records, one of which is read as often as one of all
 OVER = ("hung", "ended")  # the errors after which a co-process isn't asked any more
 Told = tuple[float, str]  # when, and what
+Pairs = list[tuple[str, str]]  # keys, some of which may be told twice, and values
 Once = Callable[[Process], Awaitable[str | None]]  # asks a co-process once; the error, if any
 
 
@@ -35,14 +41,30 @@ class Clients:
         mute = 0
         while mute < MUTE:
             async with self.hooks.running(name, stdin=PIPE, stdout=PIPE) as process:
-                mute += 1
+                mute, answers, began = mute + 1, 0, self.ledger.now()
                 while not is_over() and (error := await once(process)) not in OVER:
-                    mute = 0
+                    mute, answers, took = 0, answers + 1, self.ledger.now() - began
+                    is_long = answers % LISTENS == 0 or answers.bit_count() == 1
+                    await self._hear_nothing(name, process, took if is_long else 0)
+                    began = self.ledger.now()
                 if is_over():
                     return
                 end = error if error == "hung" else f"ended with status {await process.wait()}"
             await asyncio.sleep(AGAIN)
         raise Fault(HOOK, f"{name} {end}, {MUTE} times in a row")
+
+    async def _hear_nothing(self, name: str, process: Process, took: float) -> None:
+        """Nothing may come before the next question, or all later answers are to the one before.
+
+        One too many may come at once, or just after the true answer to the last question. So it is
+        listened for twice as long as that took, if `took` says how long.
+        """
+        assert process.stdout
+        with suppress(TimeoutError):
+            async with asyncio.timeout(took and min(2 * took + MOMENT, SECOND)):
+                if said := await process.stdout.read(MOST):
+                    text = said[:80].decode(errors="replace")
+                    raise Fault(HOOK, f"{name} printed {text!r}, and nothing was asked")
 
     async def _ask(self, process: Process, text: str) -> tuple[list[str], str | None]:
         """The words that a co-process answers to a line, or why there are none."""
@@ -128,40 +150,47 @@ class Clients:
         """What a process has of these records in the end, as long as it is up and whole.
 
         It may lag. So what it lacks is asked for again, and None is told only of a record that it
-        still lacks in a last round, a minute after it was first asked for all.
+        still lacks a minute after it was first asked for that.
         """
-        client, is_last = self.history.client(), False
-        found = await self._check_each(client, number, keys)
-        until = time.monotonic() + self.hooks.seconds("read")
-        while not is_last and (lacks := [key for key, it in found.items() if it is None]):
-            await asyncio.sleep(LAGS)
-            is_last = time.monotonic() > until or not self.is_whole(number)
-            again = await self._check_each(client, number, lacks)
-            if is_last:
-                found = {key: value for key, value in found.items() if value is not None}
-            found |= again
+        client, first = self.history.client(), dict[str, int]()
+        found, lacks = dict[str, str | None](), keys
+        while lacks:
+            asked, again = await self._check_each(client, number, lacks), []
+            for key in lacks:
+                it = asked.get(key)
+                if it is None or not it.is_whole:
+                    found.pop(key, None)  # nobody knows whether it lacks this still
+                    continue
+                is_last = it.began - first.setdefault(key, it.began) >= MINUTE
+                if it.type == "ok":
+                    found[key] = it.value
+                elif is_last:
+                    found.pop(key, None)
+                if not is_last and found.get(key, "") is None:
+                    again.append(key)
+            if lacks := again:
+                await asyncio.sleep(LAGS)
         return found
 
     async def _check_each(
         self, client: Client, number: int, keys: list[str]
-    ) -> dict[str, str | None]:
-        """What a process tells of each of these records, of as many as it answers for in time."""
-        queue, found = list(reversed(keys)), dict[str, str | None]()
+    ) -> dict[str, Operation]:
+        """Asks a process for each of these records, for as many as it answers for in time."""
+        queue, asked = list(reversed(keys)), dict[str, Operation]()
         until = time.monotonic() + self.patience(len(keys))
 
         async def once(process: Process) -> str | None:
             operation = await self._check_one(process, client, number, queue[-1])
             if operation.error not in OVER:
                 queue.pop()
-            if operation.type == "ok" and operation.is_whole:
-                found[operation.key] = operation.value
+            asked[operation.key] = operation
             return operation.error
 
         def is_over() -> bool:
             return not queue or not self.is_whole(number) or time.monotonic() > until
 
         await self._talk("check", once, is_over)
-        return found
+        return asked
 
     def patience(self, count: int) -> float:
         """For how many seconds a process is asked at the end for so many records."""
@@ -186,22 +215,19 @@ class Clients:
         async with self.hooks.running("check", stdin=PIPE, stdout=PIPE) as process:
             return await self._check_one(process, self.history.client(), number, key)
 
-    async def read(self, is_noted: bool = True) -> dict[str, str] | None:
-        """What is left, which may need some tries; None if nothing could be read.
-
-        It is noted in the history, which it may only be if nothing else is asked at once.
-        """
+    async def read(self, is_noted: bool = True) -> Pairs | None:
+        """What is left, which may need some tries; None if nothing could be read."""
         until = time.monotonic() + self.hooks.seconds("read")
-        began = self.ledger.now_ns()
-        while (text := await self.hooks.call("read")) is None:
+        while True:
+            with self.history.reading() as reading:
+                if (text := await self.hooks.call("read")) is not None:
+                    found = pairs("read", text)
+                    if is_noted:
+                        self.history.read_all(reading, found)
+                    return found
             if time.monotonic() > until or not self.ledger.able:
                 return None
             await asyncio.sleep(0.5)
-            began = self.ledger.now_ns()
-        found = pairs("read", text)
-        if is_noted:
-            self.history.read_all(began, found)
-        return found
 
 
 def unexpected(hook: str, words: list[str], expected: str) -> Fault:
@@ -209,11 +235,11 @@ def unexpected(hook: str, words: list[str], expected: str) -> Fault:
     return Fault(HOOK, f"{hook} printed {' '.join(words)[:80]!r}; it has to be {expected}")
 
 
-def pairs(hook: str, text: str) -> dict[str, str]:
+def pairs(hook: str, text: str) -> Pairs:
     """The records that a hook printed."""
-    found = {}
+    found = []
     for line in text.splitlines():
         if len(pair := line.split()) != 2:
             raise Fault(HOOK, f"{hook} printed {line[:80]!r}; it has to print 'KEY VALUE' lines")
-        found[pair[0]] = pair[1]
+        found.append((pair[0], pair[1]))
     return found

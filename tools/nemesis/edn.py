@@ -7,7 +7,8 @@ from typing import Any
 
 from . import say
 
-KEYWORDS = {"type", "f"}  # whose values are keywords
+KEYWORDS = {"type", "f", "process"}  # whose values are keywords, unless they are numbers
+OF_ALL, OF_CLIENTS = {"index", "time", "f"}, {"process", "type", "value"}
 
 
 def edn(value: Any) -> str:
@@ -22,9 +23,19 @@ def edn(value: Any) -> str:
 
 
 def edn_line(line: dict[str, Any]) -> str:
-    """A line of history.jsonl as a map."""
-    pairs = (f":{key} {f':{it}' if key in KEYWORDS else edn(it)}" for key, it in line.items())
+    """A line of history.jsonl as a map. What no client did is the nemesis's, and its `type` is
+    `told`, since Jepsen has others."""
+    if "process" not in line:
+        told = {"told": line["type"]} if "type" in line else {}
+        own = {"process": "nemesis", "type": "info", "value": None}
+        line = own | {key: it for key, it in line.items() if key != "type"} | told
+    pairs = (f":{key} {keyword(it) if key in KEYWORDS else edn(it)}" for key, it in line.items())
     return "{" + ", ".join(pairs) + "}"
+
+
+def keyword(value: Any) -> str:
+    """What Jepsen has as a keyword."""
+    return f":{value}" if isinstance(value, str) else edn(value)
 
 
 class Convert(argparse.Action):
@@ -48,9 +59,12 @@ def converted(lines: Sequence[str]) -> list[str]:
     for number, text in enumerate(lines, 1):
         try:
             line = json.loads(text)
-            if not {"index", "time", "process", "type", "f", "value"} <= line.keys():
+            if (
+                not OF_ALL | (OF_CLIENTS if line["f"] in ("read", "write") else set())
+                <= line.keys()
+            ):
                 raise ValueError
-        except (ValueError, AttributeError):
+        except (ValueError, AttributeError, KeyError, TypeError):
             raise ValueError(f"line {number} is no operation") from None
         found.append(edn_line(line))
     return found

@@ -1,10 +1,11 @@
-"""What each client asked of the store and was answered: a history as Jepsen has it, one line for
-each beginning and each end."""
+"""What happened in a run, one line each in the order in which it did: what each client asked of the
+store and was answered, as Jepsen has it; what the guard answered; and what the disks told."""
 import itertools
 import json
-from collections.abc import Iterator
+from collections import Counter
+from collections.abc import Iterable, Iterator, Mapping, Set
 from contextlib import contextmanager
-from dataclasses import dataclass
+from dataclasses import dataclass, field
 from pathlib import Path
 from typing import Any
 
@@ -27,6 +28,7 @@ class Operation:
     error: str | None = None
     node: int | None = None
     is_whole: bool = True  # whether the process that was asked counted as up and whole
+    times: int = 1  # how often a read found it
 
     def ok(self, value: str | None) -> None:
         """It was done; a read has found this, or nothing."""
@@ -55,6 +57,15 @@ class Client:
         self.process = next(self._numbers)
 
 
+@dataclass
+class Reading:
+    """A read of all keys at once, as by so many clients, which has begun."""
+
+    began: int
+    lines: list[dict[str, Any]] = field(default_factory=list)  # that came meanwhile
+    reads: list[Operation] = field(default_factory=list)
+
+
 class History:
     """Writes and reads in the order in which they began and ended, also as lines of a file."""
 
@@ -63,6 +74,7 @@ class History:
         self.reads: list[Operation] = []  # that were answered
         self._file = path.open("w", encoding="utf-8")
         self._ledger, self._index, self._clients = ledger, itertools.count(), itertools.count()
+        self._reading: Reading | None = None
 
     def client(self) -> Client:
         """A new one."""
@@ -71,6 +83,8 @@ class History:
     def flush(self) -> None:
         """Has the file hold all that happened so far."""
         self._file.flush()
+
+    # What clients ask.
 
     @contextmanager
     def write(self, client: Client, key: str, value: str) -> Iterator[Operation]:
@@ -93,39 +107,95 @@ class History:
         if operation.type == "ok":
             self.reads.append(operation)
 
-    def read_all(self, began: int, found: dict[str, str]) -> None:
-        """A read of all keys at once, as by so many clients, which began then and ends now."""
-        ended = self._ledger.now_ns()
-        keys = dict.fromkeys([*self.writes, *(key for key in found if key.startswith(PREFIX))])
-        reads = [Operation(next(self._clients), "read", key, None, began) for key in keys]
-        for read in reads:
-            self._line("invoke", began, read)
-        for read in reads:
-            read.ok(found.get(read.key))
-            read.ended = ended
-            self._line(read.type, ended, read)
-        self.reads += reads
+    @contextmanager
+    def reading(self) -> Iterator[Reading]:
+        """A read of all keys, of which `read_all` is told, unless there is no answer.
+
+        Which keys it reads is only known then. So what happens meanwhile waits for its beginning.
+        """
+        reading = self._reading = Reading(self._ledger.now_ns())
+        try:
+            yield reading
+        finally:
+            self._reading = None
+            for read in reading.reads:
+                self._tell("invoke", reading.began, read)
+            for line in reading.lines:
+                self._write(line)
+            for read in reading.reads:
+                self._tell(read.type, read.ended, read)
+            self.reads += reading.reads
+
+    def read_all(self, reading: Reading, found: Iterable[tuple[str, str]]) -> None:
+        """A read of all keys is answered now: each value of a key is one read."""
+        ended, values = self._ledger.now_ns(), dict[str, Counter[str | None]]()
+        for key in self.writes:
+            values[key] = Counter()
+        for key, value in found:
+            if key in self.writes or key.startswith(PREFIX):
+                values.setdefault(key, Counter())[value] += 1
+        for key, counts in values.items():
+            for it, times in (counts or {None: 1}).items():
+                client, began = next(self._clients), reading.began
+                read = Operation(client, "read", key, it, began, ended, "ok", times=times)
+                reading.reads.append(read)
+
+    # What else happens.
+
+    def answered(self, entry: int, **does: str | None) -> None:
+        """The guard has answered an entry, and nothing was struck yet.
+
+        `does` is what is done where that isn't what the answer says.
+        """
+        self._line(f="entry", value=entry, **does)
+
+    def written(self) -> None:
+        """No write begins from here on, and the reads at the end follow."""
+        self._line(f="written")
+
+    def salvaged(self, node: int, records: Iterable[tuple[str, str]], is_all: bool) -> None:
+        """What the folder of a process has; there may be more."""
+        for key, value in dict.fromkeys(records):
+            if key in self.writes or key.startswith(PREFIX):
+                self._line(f="salvage", type="told", node=node, value=[key, value])
+        self._line(f="salvage", type="all" if is_all else "some", node=node)
+
+    def looked_through(self, node: int, keys: Set[str]) -> None:
+        """The keys of which something stands in the files of a process, and of no other does."""
+        for key in sorted(keys):
+            self._line(f="plain", type="told", node=node, value=[key, None])
+        self._line(f="plain", type="all", node=node)
+
+    # Lines.
 
     @contextmanager
     def _told(self, operation: Operation) -> Iterator[None]:
-        self._line("invoke", operation.began, operation)
+        self._tell("invoke", operation.began, operation)
         try:
             yield
         finally:
             operation.ended = self._ledger.now_ns()
-            self._line(operation.type, operation.ended, operation)
+            self._tell(operation.type, operation.ended, operation)
 
-    def _line(self, kind: str, time: int, operation: Operation) -> None:
-        line: dict[str, Any] = {
-            "index": next(self._index),
-            "time": time,
-            "process": operation.process,
-            "type": kind,
-            "f": operation.f,
-            "value": [operation.key, operation.value],
-        }
-        if operation.f == "read":
-            line["node"] = operation.node
+    def _tell(self, kind: str, time: int, operation: Operation) -> None:
+        """A line of an operation that begins, or has ended in some way."""
+        is_read, is_known = operation.f == "read", kind == "ok" or operation.f == "write"
+        value = [operation.key, operation.value if is_known else None]
+        more: dict[str, Any] = {"node": operation.node} if is_read else {}
         if operation.error and kind != "invoke":
-            line["error"] = operation.error
-        print(json.dumps(line), file=self._file)
+            more["error"] = operation.error
+        if operation.times > 1 and kind == "ok":
+            more["times"] = operation.times
+        process, f = operation.process, operation.f
+        line = {"time": time, "process": process, "type": kind, "f": f, "value": value}
+        self._write(line | more)
+
+    def _line(self, **line: Any) -> None:
+        """A line of something that happens now, and isn't an operation."""
+        self._write({"time": self._ledger.now_ns()} | line)
+
+    def _write(self, line: Mapping[str, Any]) -> None:
+        if self._reading:
+            self._reading.lines.append({**line})
+        else:
+            print(json.dumps({"index": next(self._index), **line}), file=self._file)

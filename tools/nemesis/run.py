@@ -7,18 +7,19 @@ from dataclasses import replace
 from random import Random
 from typing import Any
 
-from faultyard import FaultyardError, Guard
+from faultyard import FaultyardError, Guard, Kind
+from faultyard.replies import Entry
 
 from . import HOOK, Fault
 from .checks import HookCheck
-from .clients import Clients, pairs
+from .clients import Clients, Pairs, pairs
 from .evidence import Case, Course, wrong_line
 from .history import History, Operation
 from .orders import Orders, Timed
 from .store import AGAIN, Store, cancelled
-from .summary import Amount
+from .summary import Amount, failures
 from .traces import traces
-from .verdicts import Disk, Judged, Left, Verdict, judged, wrong
+from .verdicts import MORE, Disk, Judged, Left, Verdict, judged, wrong
 
 PATIENT = 10.0  # seconds after which the first order is done though no record is acknowledged
 
@@ -98,6 +99,7 @@ class Run(Store):
             await cancelled(behind)
         self.ledger.stop()
         self.note("written")
+        self.history.written()
         await self.clogs_ended(at_once=True)
 
     async def _late(self, orders: list[Timed]) -> float:
@@ -112,6 +114,10 @@ class Run(Store):
             await asyncio.sleep(AGAIN)
         return max(0.0, self.ledger.now() - orders[0][0])
 
+    def answered(self, entry: Entry, does: Kind | None) -> None:
+        done = {"does": does.value if does else None}
+        self.history.answered(entry.at, **({} if does is entry.struck else done))
+
     async def look_at_emptied(self, number: int) -> None:
         if self.words.check_hooks:
             await self.check.look_at_emptied(number)
@@ -121,8 +127,9 @@ class Run(Store):
         self.show("reads what is left")
         found, acked = await self.clients.read(), list(self.ledger.records)
         if not acked:
-            text = "no record was acknowledged, so the run says nothing; write only said 'no'"
-            raise Fault(HOOK, text)
+            amount, asked = self.amount(), len(self.history.writes)
+            why = failures(amount) if amount.failed else f"none of {asked} writes was answered"
+            raise Fault(HOOK, f"no record was acknowledged, so the run says nothing: {why}")
         if found is None:
             when = f"in {self.hooks.seconds('read'):g} seconds"
             when = when if self.ledger.able else "and every process is destroyed"
@@ -133,7 +140,7 @@ class Run(Store):
         self.notes += [f"at the end {text}" for text in self.waiting()]
         runs = self.up | self.gone
         self.down = [name for number, name in enumerate(self.names) if number not in runs]
-        return Left(found, checked)
+        return Left(found if found is None else dict(found), checked)
 
     async def _check_all(self, keys: list[str]) -> dict[int, dict[str, str | None]]:
         """What each process that is up and whole tells, once those that come back had some time."""
@@ -171,7 +178,13 @@ class Run(Store):
         One after the other, since members of a store that run at once may find each other.
         """
         self.show("looks at the disks")
-        return {number: await self._disk(number) for number in range(len(self.names))}
+        found: dict[int, Disk] = {}
+        for number in range(len(self.names)):
+            told = await self._disk(number)
+            if told is not None:
+                self.history.salvaged(number, told, is_all=MORE not in dict(told))
+            found[number] = told if told is None else dict(told)
+        return found
 
     async def _looked_through(self, left: Left) -> Left:
         """With what stands in the files of those whose `salvage` gave nothing, if it would show."""
@@ -181,16 +194,17 @@ class Run(Store):
             try:
                 folder = self.words.out / str(number)
                 keys = found[number] = await asyncio.to_thread(traces, folder, records)
+                self.history.looked_through(number, keys)
                 text = f"have something of {len(keys)} of {len(records)} records"
             except OSError as fault:
                 text = f"can't be read: {fault}"
             self.notes.append(f"the files of {self.names[number]} {text}")
         return replace(left, traces=found)
 
-    async def _disk(self, number: int) -> Disk:
+    async def _disk(self, number: int) -> Pairs | None:
         """What the folder of a process has, which doesn't run."""
         if number in self.gone or number in self.emptied:
-            return {}
+            return []
         text = await self.hooks.salvage(number, await self.hooks.copy(number))
         try:
             if text is not None:
@@ -224,7 +238,7 @@ class Run(Store):
 
     def amount(self) -> Amount:
         """How much was done."""
-        ledger, failed = self.ledger, ("no", "hung", "ended")
+        ledger, failed = self.ledger, ("no", "hung", "ended", "late")
         errors = Counter(it.error for it in self.history.writes.values())
         return Amount(
             acked=len(ledger.records),

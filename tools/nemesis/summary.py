@@ -33,7 +33,7 @@ def tested_little(amount: Amount, is_control: bool = False) -> list[str]:
         gaps = f"in {len(quiet)} gap{'s' * (len(quiet) > 1)} of a second or more"
         lines.append(f"for {idle:.1f} of {seconds:.1f} seconds no write was acknowledged, {gaps}")
     if amount.failed and (is_few or is_idle):
-        lines.append(failures(amount.failed, *amount.said))
+        lines.append(failures(amount))
     if not amount.destroyed and not amount.partitions:
         lines.append("nothing was destroyed")
     elif amount.destroyed and not amount.healed and not is_control:
@@ -41,11 +41,12 @@ def tested_little(amount: Amount, is_control: bool = False) -> list[str]:
     return [f"tested little: {line}" for line in lines]
 
 
-def failures(failed: Mapping[str, int], said: str, count: int) -> str:
+def failures(amount: Amount) -> str:
     """How many writes had no acknowledgement, and what `write` wrote to standard error most
     often."""
-    kinds = ", ".join(f"{number} {kind}" for kind, number in failed.items())
-    text = f"{sum(failed.values())} writes weren't acknowledged ({kinds})"
+    said, count = amount.said
+    kinds = ", ".join(f"{number} {kind}" for kind, number in amount.failed.items())
+    text = f"{sum(amount.failed.values())} writes weren't acknowledged ({kinds})"
     return f"{text}; `write` said most often, {count} times: {said}" if said else text
 
 

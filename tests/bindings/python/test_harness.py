@@ -271,9 +271,12 @@ class Mine(Harness):
     """A harness whose processes only note what is done to them."""
 
     def __init__(self, guard, folder, **more):
-        self.done, self.shown = [], []
+        self.done, self.shown, self.answers = [], [], []
         events = Path(folder, "events.jsonl")
         super().__init__(guard, ClusterFile.read(THREE), events, show=self.shown.append, **more)
+
+    def answered(self, entry, does):
+        self.answers.append((entry.at, does, len(self.done)))
 
     async def strike(self, processes, kind):
         self.done.append((processes, kind))
@@ -395,6 +398,23 @@ class HarnessTest(common.Folder, unittest.TestCase):
         self.assertEqual(harness.done, wanted)
         self.assertEqual([it["entry"] for it in events], [0, 1, 2, 3])
         self.assertEqual(events[1]["reply"], "done")
+
+    def test_each_entry_is_told_in_its_order_before_anything_is_done(self):
+        async def play(harness):
+            guard, untold = harness.guard, []
+            guard.others = lambda before=None: [untold.pop(0) for _ in untold[:]]
+            await harness.obey(1, EMPTY.act())
+            untold.append(guard.act(2, EMPTY._replace(value="p2").act()))
+            harness.tell_up(0)  # a report waits for nobody
+            self.assertEqual(len(harness.done), 1)
+            await harness.obey(1, Order(Kind.REBOOT, Key.PROCESS, "p0").act())
+
+        emptied, reboot = Kind.REBOOT_AND_DELETE, Kind.REBOOT
+        for unguarded, does in ((False, reboot), (True, emptied)):
+            harness, _ = self.played(play, unguarded=unguarded)
+            answers = [(0, emptied, 0), (1, does, 1), (2, None, 1), (3, reboot, 1)]
+            self.assertEqual(harness.answers, answers)
+            self.assertEqual(harness.done, [([1], emptied), ([2], does), ([0], reboot)])
 
     def test_reports(self):
         async def play(harness):

@@ -82,6 +82,7 @@ class Harness(ABC):
         self._events.write_text("")
         self._over = asyncio.Event()
         self._clogs: List[Awaitable[None]] = []
+        self._due: List[Entry] = []  # what others were answered, and isn't carried out yet
         # The last clog of each target, until it is freed.
         self._lasting: Dict[Tuple[Key, str], Order] = {}
 
@@ -92,6 +93,12 @@ class Harness(ABC):
     @abstractmethod
     async def clog(self, processes: Sequence[int], is_clogged: bool) -> None:
         """Holds the messages of these processes, or lets them go."""
+
+    def answered(self, entry: Entry, does: Optional[Kind]) -> None:
+        """An entry was made, and nothing is done yet; each entry is told once, and none behind a
+        later one. `does` is what its targets get, which may be beyond what the guard said. A
+        subclass may keep it.
+        """
 
     def show(self, text: str) -> None:
         """Shows a line, with its time."""
@@ -116,8 +123,8 @@ class Harness(ABC):
         """
         async with self.turn:
             entry = self.guard.act(by, act)
-            for other in self.guard.others(before=entry.at):
-                await self._carry_out(other)
+            self._take(entry)
+            await self._carry_out_others()
             await self._carry_out(entry, ordered)
         return entry
 
@@ -125,9 +132,24 @@ class Harness(ABC):
         """Does what others are answered by a guard that is served, until it is cancelled."""
         while True:
             async with self.turn:
-                for entry in self.guard.others():
-                    await self._carry_out(entry)
+                self._take()
+                await self._carry_out_others()
             await asyncio.sleep(FOLLOWED)
+
+    def _take(self, own: Optional[Entry] = None) -> None:
+        """Takes note of what others were answered, before an entry of ours or until now."""
+        others = self.guard.others(before=own.at if own else None)
+        self._due += others
+        for entry in others + ([own] if own else []):
+            self.answered(entry, self._does(entry))
+
+    def _does(self, entry: Entry) -> Optional[Kind]:
+        order = Order.of(entry.act)
+        return order.kind if order and self.unguarded else entry.struck
+
+    async def _carry_out_others(self) -> None:
+        while self._due:
+            await self._carry_out(self._due.pop(0))
 
     async def _carry_out(self, entry: Entry, ordered: bool = False) -> None:
         order = Order.of(entry.act)
@@ -143,7 +165,7 @@ class Harness(ABC):
             await self.clog(self.targets(*target), False)
 
     async def _do(self, order: Order, entry: Entry) -> None:
-        said, does = entry.struck, order.kind if self.unguarded else entry.struck
+        said, does = entry.struck, self._does(entry)
         processes = self.targets(order.key, order.value)
         event: Dict[str, Any] = {
             "t": self.ledger.now(),
@@ -226,6 +248,7 @@ class Harness(ABC):
         if not self.ledger.has_begun():
             return None
         entry = self.guard.act(by, act)
+        self._take(entry)
         self.note(what, process=process, entry=entry.at, reply=entry.told)
         return entry.at
 
