@@ -39,6 +39,7 @@ COUNT, PORT = int(os.environ["FY_COUNT"]), int(os.environ["FY_PORT"])
 JOINS = "STORE_JOINS" in os.environ  # `join` copies, so `whole` only looks
 HOSTS = os.environ["FY_HOSTS"].split()
 NET = os.environ.get("STORE_NET", "")  # a network in which each server has an address of its own
+WAITS = float(os.environ.get("STORE_WAITS", 1))  # seconds until a server is given up
 PAUSE = 0.004  # seconds that a write takes at least: with too many records hooks take too long
 Records = dict[str, str]
 
@@ -168,7 +169,7 @@ class Link:
         """The lines of the answer; OSError where there is none."""
         try:
             if self.link is None:
-                self.link = socket.create_connection(address(self.number), 1)
+                self.link = socket.create_connection(address(self.number), WAITS)
             self.link.sendall(line.encode() + b"\n")
             told = b""
             while not told.endswith((b"ok\n", b".\n")):

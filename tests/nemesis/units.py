@@ -1,110 +1,29 @@
-"""Verdicts of small histories that are written out by hand. Expected are the definitions of
-docs/NEMESIS.md."""
+"""Parts of the tool, alone."""
 import asyncio
 import itertools
 import json
+import os
+import signal
+import subprocess
 import tempfile
+import time
 import unittest
+import unittest.mock
 from pathlib import Path
 from unittest.mock import patch
 
+import clock
 from faultyard.enums import Kind
-from faultyard.ledger import Heal, Loss, Record
-from nemesis import HOOK, Fault, checks, clients, store, summary
+from nemesis import HOOK, Fault, checks, summary
 from nemesis.clients import Clients
 from nemesis.crashes import Crashes
-from nemesis.evidence import Case, Course
 from nemesis.history import History, Operation
 from nemesis.hook_log import HookLog
 from nemesis.main import rising
 from nemesis.store import Store
 from nemesis.traces import traces
-from nemesis.verdicts import Left, Verdict, judged, wrong
 
 KEY, VALUE = "r/000000001", "a"
-
-
-def write(key=KEY, value=VALUE, began=0, ended=10, type="ok"):
-    return Operation(0, "write", key, value, began, ended, type)
-
-
-def read(value, began, key=KEY, node=0):
-    return Operation(1, "read", key, value, began, began + 1, "ok", node=node)
-
-
-class Verdicts(unittest.TestCase):
-    def assert_verdict(self, expected, left, reads=()):
-        (found,) = judged([KEY], {KEY: write()}, reads, left)
-        self.assertEqual(found.verdict, expected)
-        return found
-
-    def test_kept_is_what_a_read_at_the_end_tells(self):
-        self.assert_verdict(Verdict.KEPT, Left({KEY: VALUE}))
-        self.assert_verdict(Verdict.KEPT, Left(None, {2: {KEY: VALUE}}))
-
-    def test_lost_is_what_an_answered_read_at_the_end_lacks(self):
-        self.assert_verdict(Verdict.LOST, Left({}))
-        self.assert_verdict(Verdict.LOST, Left({KEY: VALUE}, {0: {KEY: VALUE}, 2: {KEY: None}}))
-        self.assert_verdict(Verdict.LOST, Left({}, {0: {KEY: VALUE}}, {0: {KEY: VALUE}}))
-
-    def test_unreadable_is_what_nobody_answers_for(self):
-        self.assert_verdict(Verdict.UNREADABLE, Left(None))
-        self.assert_verdict(Verdict.UNREADABLE, Left(None, {2: {}}))
-        self.assert_verdict(Verdict.UNREADABLE, Left(None, disks={0: {}, 1: None}))
-
-    def test_disks_settle_what_nobody_answers_for(self):
-        self.assert_verdict(Verdict.KEPT, Left(None, disks={0: None, 1: {KEY: VALUE}}))
-        self.assert_verdict(Verdict.LOST, Left(None, disks={0: {}, 1: {"r/000000002": "b"}}))
-        self.assert_verdict(Verdict.LOST, Left(None, disks={0: {KEY: "torn"}}))
-
-    def test_files_settle_what_no_disk_tells(self):
-        """Lost is what no disk tells and of which nothing stands in the files of those that don't
-        tell all."""
-        none, other = set(), {"r/000000002"}
-        for disk in (None, {"?": "?"}, {"?": "?", KEY: "torn"}):
-            with self.subTest(disk):
-                disks = {0: disk, 1: {}}
-                self.assert_verdict(Verdict.UNREADABLE, Left(None, disks=disks))
-                self.assert_verdict(Verdict.UNREADABLE, Left(None, disks=disks, traces={0: {KEY}}))
-                self.assert_verdict(
-                    Verdict.UNREADABLE, Left(None, disks={2: None} | disks, traces={0: none})
-                )
-                self.assert_verdict(Verdict.LOST, Left(None, disks=disks, traces={0: other}))
-        told = {0: {"?": "?", KEY: VALUE}, 1: None}
-        self.assert_verdict(Verdict.KEPT, Left(None, disks=told, traces={0: none, 1: none}))
-        self.assert_verdict(Verdict.KEPT, Left({KEY: VALUE}, disks={0: None}, traces={0: none}))
-
-    def test_stale_is_lacked_after_its_acknowledgement_and_found_later(self):
-        found = self.assert_verdict(
-            Verdict.STALE, Left({KEY: VALUE}), [read(None, 12), read(None, 30), read(VALUE, 40)]
-        )
-        self.assertEqual(found.lacking.began, 30)
-        self.assert_verdict(Verdict.LOST, Left({}), [read(None, 30)])
-        self.assert_verdict(Verdict.UNREADABLE, Left(None), [read(None, 30)])
-
-    def test_a_read_that_began_before_the_acknowledgement_may_lack_it(self):
-        self.assert_verdict(Verdict.KEPT, Left({KEY: VALUE}), [read(None, 5), read(None, 10)])
-
-    def test_wrong_is_another_value_than_was_written(self):
-        self.assert_verdict(Verdict.WRONG, Left({KEY: "b"}), [read("b", 30)])
-        self.assert_verdict(Verdict.WRONG, Left({KEY: VALUE}), [read("b", 5)])
-
-    def test_wrong_are_keys_and_values_that_nobody_wrote(self):
-        writes = {KEY: write(), "r/000000002": write("r/000000002", "b", type="info")}
-        right = [
-            read(VALUE, 1),
-            read(None, 2),
-            read("b", 3, "r/000000002"),
-            read("yes", 4, "ready"),
-        ]
-        self.assertEqual(wrong(writes, right), [])
-        faulty = [
-            read("b", 5),
-            read("x", 6, "r/000000002"),
-            read("y", 7, "r/9"),
-            read("z", 8, "r/9"),
-        ]
-        self.assertEqual(wrong(writes, right + faulty), faulty[:3])
 
 
 class Traces(unittest.TestCase):
@@ -257,156 +176,9 @@ class Whole(unittest.TestCase):
         self.assertIsNone(self.noes(0))
 
 
-class Cases(unittest.TestCase):
-    """Five processes, and a record that was acknowledged at second 5, before entry 6."""
-
-    def case(self, left, losses=(), heals=(), orders=(), able=range(5), reads=(), is_fresh=False):
-        course = Course(
-            [f"k{number}" for number in range(5)],
-            orders,
-            [Loss(process, t, entry, 0) for process, t, entry in losses],
-            [Heal(process, t, entry) for process, t, entry in heals],
-            left,
-            is_fresh,
-        )
-        acked = write(began=4_900_000_000, ended=5_000_000_000)
-        (judged_record,) = judged([KEY], {KEY: acked}, reads, left)
-        return Case(judged_record, Record(VALUE, 5.0, 6, tuple(able)), course)
-
-    def disks(self, *having, unknown=()):
-        return {n: None if n in unknown else {KEY: VALUE} if n in having else {} for n in range(5)}
-
-    def test_one_who_was_never_destroyed_holds_it(self):
-        left = Left({}, disks=self.disks(2, 4))
-        case = self.case(left, losses=[(2, 6.0, 18), (3, 7.0, 20)])
-        self.assertEqual(case.fault(), "k4 holds it and was never destroyed: the store lost it")
-        line = case.line()
-        self.assertEqual((line["sent"], line["acked"], line["entry"]), (4.9, 5.0, 6))
-        self.assertEqual(line["never_destroyed"], ["k0", "k1", "k4"])
-        self.assertEqual(line["destroyed"], {"k2": [18], "k3": [20]})
-        self.assertEqual(line["holds"], {"k2": ["salvage"], "k4": ["salvage"]})
-        self.assertEqual(sorted(line["lacks"]), ["k0", "k1", "k3"])
-
-    def test_none_of_those_who_were_never_destroyed_has_it(self):
-        case = self.case(Left({}, disks=self.disks()), losses=[(2, 6.0, 18), (3, 7.0, 20)])
-        fault = (
-            "k0 k1 k4 could hold it and were never destroyed since, and none has it:"
-            " the store lost it"
-        )
-        self.assertEqual(case.fault(), fault)
-
-    def test_what_was_destroyed_before_is_not_blamed(self):
-        case = self.case(Left({}, disks=self.disks()), losses=[(2, 3.0, 4)], able=(0, 1, 3, 4))
-        self.assertEqual((case.destroyed, case.never), ({}, {0, 1, 3, 4}))
-        self.assertNotIn("4", case.fault().replace("k4", ""))
-
-    def test_unknown_disks_are_said_to_be_unknown(self):
-        case = self.case(Left({}), losses=[(2, 6.0, 18), (3, 7.0, 20)])
-        fault = (
-            "unknown: k0 k1 k4 could hold it and were never destroyed since, "
-            "and whether the disk of k0 k1 k4 has it is unknown: the store lost it, or `read` lags"
-        )
-        self.assertEqual(case.fault(), fault)
-        case = self.case(Left(None, disks=self.disks(unknown=[3])))
-        self.assertEqual(case.verdict, Verdict.UNREADABLE)
-        self.assertEqual(
-            case.fault(),
-            "unknown: no read was answered, and whether the disk of k3 has it is unknown",
-        )
-
-    def test_files_are_evidence_where_a_disk_does_not_tell_all(self):
-        disks = self.disks(unknown=[3]) | {4: {"?": "?"}}
-        case = self.case(Left(None, disks=disks, traces={3: set(), 4: set()}))
-        self.assertEqual(case.verdict, Verdict.LOST)
-        self.assertEqual(
-            case.line()["lacks"], {f"k{n}": ["salvage" if n < 3 else "files"] for n in range(5)}
-        )
-        self.assertTrue(case.fault().endswith("and none has it: the store lost it"), case.fault())
-        case = self.case(Left(None, disks=disks, traces={3: set(), 4: {KEY}}))
-        self.assertEqual(
-            case.fault(),
-            "unknown: no read was answered, and whether the disk of k4 has it is unknown",
-        )
-
-    def test_all_were_destroyed_as_the_guard_allowed(self):
-        losses = [(0, 6.0, 7), (1, 6.0, 7), (2, 6.0, 7), (3, 7.0, 20), (4, 7.0, 20)]
-        case = self.case(Left({}, disks=self.disks()), losses)
-        fault = "every holder was destroyed by entries 7 and 20, which the guard allowed: tell us"
-        self.assertEqual(case.fault(), fault)
-
-    def test_beyond_the_guard(self):
-        order = {"entry": 7, "does": "RebootAndDelete", "beyond": True, "t": 6.0, "targets": [2, 3]}
-        mild = {"entry": 3, "does": "Reboot", "beyond": True, "t": 2.0, "targets": [2]}
-        losses = [(2, 6.0, 7), (3, 6.0, 7)]
-        case = self.case(Left({}, disks=self.disks()), losses, orders=[mild, order])
-        self.assertEqual(
-            case.fault(), "beyond the guard since entry 7, which destroyed k2 k3 who could hold it"
-        )
-        case = self.case(Left({}, disks=self.disks()), losses, orders=[order], able=(0, 3))
-        self.assertEqual(
-            case.fault(), "beyond the guard since entry 7, which destroyed k3 who could hold it"
-        )
-        case = self.case(Left({}, disks=self.disks(4)), losses, orders=[order])
-        self.assertTrue(case.fault().endswith("; k4 has it"))
-        case = self.case(Left({}, disks=self.disks()), orders=[order | {"entry": 2, "t": 1.0}])
-        self.assertEqual(case.fault(), "beyond the guard since entry 2")
-        self.assertEqual(case.line()["struck"], [])
-
-    def test_one_was_healed_and_lacks_it(self):
-        losses, heals = [(0, 6.0, 7), (1, 8.0, 11)], [(0, 7.0, 9)]
-        case = self.case(Left({}, disks=self.disks()), losses, heals, able=(0, 1))
-        self.assertEqual(case.never, set())
-        fault = (
-            "of those who could hold it k0 was healed by entry 9: `whole` was wrong,"
-            " or the store lost it"
-        )
-        self.assertEqual(case.fault(), fault)
-
-    def test_a_heal_does_not_matter_where_all_were_down_at_once(self):
-        losses, heals = [(0, 6.0, 7), (1, 6.5, 8)], [(0, 7.0, 9)]
-        case = self.case(Left({}, disks=self.disks()), losses, heals)
-        self.assertTrue(case.fault().endswith("and none has it: the store lost it"), case.fault())
-        later = self.case(Left({}, disks=self.disks()), [(0, 6.0, 7), (1, 8.0, 11)], heals)
-        self.assertTrue(
-            later.fault().endswith("`whole` was wrong, or the store lost it"), later.fault()
-        )
-
-    def test_a_process_lacks_it_and_read_has_it(self):
-        left = Left({KEY: VALUE}, {0: {KEY: VALUE}, 2: {KEY: None}})
-        self.assertEqual(
-            self.case(left).fault(),
-            "k2 lacks it by `check`, and k0 and `read` has it: the store lost it there,"
-            " or `check` is wrong",
-        )
-        case = self.case(left, losses=[(2, 6.0, 7)], heals=[(2, 7.0, 9)])
-        self.assertTrue(
-            case.fault().endswith(
-                "k2 was healed by entry 9: `whole` was wrong, or the store lost it"
-            )
-        )
-
-    def test_stale(self):
-        late = Operation(1, "read", KEY, None, 5_300_000_000, 5_400_000_000, "ok", node=1)
-        left = Left({KEY: VALUE})
-        self.assertEqual(self.case(left, reads=[late]).fault(), "k1 lacked it after 0.300 s")
-        fault = "k1 lacked it after 0.300 s, though the hooks promise fresh"
-        self.assertEqual(self.case(left, reads=[late], is_fresh=True).fault(), fault)
-
-    def test_orders_since_it_was_sent_are_told(self):
-        orders = [
-            {"entry": 4, "does": "Reboot", "beyond": False, "t": 4.0, "targets": [0]},
-            {"entry": 5, "does": "Reboot", "beyond": False, "t": 4.95, "targets": [0, 1]},
-            {"entry": 8, "does": None, "beyond": False, "t": 6.0, "targets": [0]},
-            {"entry": 9, "does": "Clog", "beyond": False, "t": 7.0, "targets": [3, 4]},
-        ]
-        case = self.case(Left({}, disks=self.disks()), orders=orders, able=(0, 2, 3))
-        struck = [(it["entry"], it["processes"]) for it in case.line()["struck"]]
-        self.assertEqual(struck, [(5, ["k0"]), (9, ["k3"])])
-
-
 class Histories(unittest.TestCase):
     def test_a_read_that_is_answered_after_all_has_no_error(self):
-        operation = read(None, 0)
+        operation = Operation(1, "read", KEY, None, 0, 1, "ok", node=0)
         operation.fail("?")
         operation.ok(VALUE)
         self.assertEqual((operation.type, operation.value, operation.error), ("ok", VALUE, None))
@@ -479,15 +251,15 @@ class Histories(unittest.TestCase):
         self.assertLess(begun[0]["time"], entry["time"])
 
 
-class Lacking(unittest.IsolatedAsyncioTestCase):
+class Lacking(unittest.TestCase):
     """What a process lacks at the end is asked for until a minute has passed since it was first
     asked for, whatever a hook may take."""
 
     async def checked(self, *answers, limit=2.0):
         """What is found of keys, each with the second from which on it is told; and when it was
         asked for. A negative second: it isn't answered for from then on."""
-        self.now, self.asked = 7.0, {f"r/{number}": [] for number in range(len(answers))}
-        it = Clients.__new__(Clients)
+        loop, self.asked = asyncio.get_running_loop(), {f"r/{n}": [] for n in range(len(answers))}
+        it, begin = Clients.__new__(Clients), loop.time()
         it.hooks = unittest.mock.Mock(limit=limit)
         it.history, it.is_whole = unittest.mock.Mock(), lambda number: True
         since = dict(zip(self.asked, answers))
@@ -495,21 +267,19 @@ class Lacking(unittest.IsolatedAsyncioTestCase):
         async def each(client, number, keys):
             found = {}
             for key in keys:
-                self.now += 0.25
-                self.asked[key].append(self.now)
-                told, began = since[key], int(self.now * 1e9)
-                found[key] = operation = read(VALUE if 0 <= told <= self.now else None, began, key)
-                if told < 0 and self.now >= -told:
-                    operation.fail("?")
+                await asyncio.sleep(0.25)
+                now = loop.time() - begin
+                self.asked[key].append(now)
+                told, value = since[key], VALUE if 0 <= since[key] <= now else None
+                found[key] = it = Operation(1, "read", key, value, int(now * 1e9), type="ok")
+                if told < 0 and now >= -told:
+                    it.fail("?")
             return found
 
-        async def sleep(seconds):
-            self.now += seconds
-
         it._check_each = each
-        with patch.multiple(clients, asyncio=unittest.mock.Mock(sleep=sleep)):
-            return await it.check_all(1, list(self.asked))
+        return await it.check_all(1, list(self.asked))
 
+    @clock.virtual
     async def test_it_is_asked_for_until_it_is_told(self):
         for limit in (0.1, 100.0):
             found = await self.checked(0, 50, limit=limit)
@@ -519,6 +289,7 @@ class Lacking(unittest.IsolatedAsyncioTestCase):
             self.assertLess(before[-1], 50)
             self.assertGreaterEqual(last, 50)
 
+    @clock.virtual
     async def test_it_lacks_what_it_lacks_a_minute_later(self):
         found = await self.checked(0, 1e9, 1e9)
         self.assertEqual(found, {"r/0": VALUE, "r/1": None, "r/2": None})
@@ -527,6 +298,7 @@ class Lacking(unittest.IsolatedAsyncioTestCase):
             self.assertLess(before - first, 60)
             self.assertGreaterEqual(last - first, 60)
 
+    @clock.virtual
     async def test_it_does_not_lack_what_it_does_not_answer_for_in_the_end(self):
         self.assertEqual(await self.checked(0, -30), {"r/0": VALUE})
         self.assertEqual(await self.checked(0, -1), {"r/0": VALUE})
@@ -541,55 +313,126 @@ class Events(unittest.TestCase):
             self.assertEqual([json.loads(it)["entry"] for it in rising(events)], [0, 2, 3])
 
 
-class Waits(unittest.IsolatedAsyncioTestCase):
+class Clock(unittest.TestCase):
+    """The loop of these tests."""
+
+    @clock.virtual
+    async def test_time_jumps_to_the_next_timer(self):
+        loop, woken = asyncio.get_running_loop(), []
+
+        async def sleeper(seconds):
+            await asyncio.sleep(seconds)
+            woken.append((seconds, round(loop.time() - clock.BEGIN, 6)))
+
+        began = time.process_time()
+        await asyncio.gather(*map(sleeper, (300, 0.5, 7000)))
+        self.assertEqual(woken, [(0.5, 0.5), (300, 300), (7000, 7000)])
+        self.assertLess(time.process_time() - began, 10)
+
+    @clock.virtual
+    async def test_what_takes_no_time_of_the_loop(self):
+        """A thread, a process that is waited for, and a pipe that is read."""
+        loop, (source, sink), read = asyncio.get_running_loop(), os.pipe(), []
+        loop.add_reader(source, lambda: read.append((os.read(source, 9), loop.time())))
+        with patch("time.sleep") as slept:
+            await asyncio.to_thread(time.sleep, 5)
+        slept.assert_called_once_with(5)
+        subprocess.run(["true"], check=True)
+        os.write(sink, b"x")
+        await asyncio.sleep(3)
+        self.assertEqual(read, [(b"x", clock.BEGIN)])
+        self.assertAlmostEqual(loop.time(), clock.BEGIN + 3)
+        with self.assertRaises(OSError):
+            await asyncio.to_thread(os.close, -1)
+        loop.remove_reader(source)
+        os.close(source)
+        os.close(sink)
+
+    @clock.virtual
+    async def test_a_signal_comes_when_it_is_sent(self):
+        loop, came = asyncio.get_running_loop(), []
+        loop.add_signal_handler(signal.SIGUSR1, lambda: came.append(loop.time()))
+        loop.call_later(2, os.kill, os.getpid(), signal.SIGUSR1)
+        await asyncio.sleep(5)
+        self.assertEqual(came, [clock.BEGIN + 2])
+
+    def test_what_never_ends_is_stuck(self):
+        async def forever():
+            await asyncio.get_running_loop().create_future()
+
+        async def again():
+            while True:
+                await asyncio.sleep(clock.MOST / 10)
+
+        for hangs in (forever, again):
+            with self.assertRaises(clock.Stuck):
+                clock.run(hangs())
+
+
+class Waits(unittest.TestCase):
     """Two processes that don't come back."""
 
     def setUp(self):
         self.store = it = Store.__new__(Store)
-        it.ledger = unittest.mock.Mock(losses=[], destroyed={}, now=lambda: 0.0)
+        it.ledger = unittest.mock.Mock(losses=[], destroyed={}, now=self.now)
         it.hooks = unittest.mock.Mock(ends={}, asked={1: "ready 1"}, seconds=lambda name: 60.0)
         it.names, it.up, it.gone, it.emptied, it.joined = ["p0", "p1"], {0}, set(), set(), {}
         it.words, self.told = unittest.mock.Mock(out="OUT"), []
         it._show, it._elected, it._ended, it._joining = self.told.append, 0, {}, 0
 
+    def now(self):
+        return asyncio.get_running_loop().time() - clock.BEGIN
+
+    @clock.virtual
     async def test_what_is_waited_for_is_said_once_before_the_end(self):
-        clock = unittest.mock.Mock(monotonic=itertools.count(0.0, 7.0).__next__)
-        with patch.multiple(store, AGAIN=0, time=clock), self.assertRaises(Fault) as raised:
+        with self.assertRaises(Fault) as raised:
             await self.store.calm()
+        self.assertTrue(60 < self.now() < 60.2, self.now())
         waits = "p1 is not back: ready 1 has not answered yet; the logs in OUT may say why"
         ends = "it waits 60 seconds, six times --hook-timeout"
-        self.assertEqual(self.told, [f"   0.00  after 20 seconds {waits}; {ends}"])
+        (told,) = self.told
+        self.assertRegex(told[:7], r"  20\.[01]\d")
+        self.assertEqual(told[7:], f"  after 20 seconds {waits}; {ends}")
         self.assertEqual(raised.exception.args, (HOOK, f"after 60 seconds {waits}"))
 
+    @clock.virtual
     async def test_what_is_back_soon_is_not_waited_for(self):
         self.store.up = {0, 1}
         await self.store.calm()
-        self.assertEqual(self.told, [])
+        self.assertEqual((self.told, self.now()), ([], 0.0))
 
 
-class First(unittest.IsolatedAsyncioTestCase):
-    """When --check-hooks looks first, of a store that acknowledges a record, or none, at each
-    look."""
+class First(unittest.TestCase):
+    """When --check-hooks looks first, of a store that acknowledges some records a second, or
+    none."""
 
-    async def count(self, each):
-        run, clock = unittest.mock.Mock(), unittest.mock.Mock(
-            monotonic=itertools.count(0.0, 0.1).__next__
-        )
-        run.ledger.records = {}
+    async def count(self, a_second):
+        loop, began = asyncio.get_running_loop(), asyncio.get_running_loop().time()
 
-        async def sleep(_):
-            run.ledger.records |= {len(run.ledger.records): ""} if each else {}
+        class Records:
+            def __len__(self):
+                return round(a_second * (loop.time() - began))
 
-        with patch.multiple(checks, asyncio=unittest.mock.Mock(sleep=sleep), time=clock):
-            await checks.HookCheck(run).some_records()
-        return len(run.ledger.records), clock.monotonic()
+        run = unittest.mock.Mock()
+        run.ledger.records = Records()
+        await checks.HookCheck(run).some_records()
+        return len(run.ledger.records), loop.time() - began
 
+    @clock.virtual
     async def test_there_are_some_records(self):
-        self.assertEqual((await self.count(1))[0], 20)
+        count, waited = await self.count(5)
+        self.assertEqual(count, 20)
+        self.assertAlmostEqual(waited, 4, delta=0.1)
 
+    @clock.virtual
+    async def test_a_second_of_writes_comes_before(self):
+        count, waited = await self.count(100)
+        self.assertEqual((count, round(waited, 3)), (100, 1))
+
+    @clock.virtual
     async def test_it_does_not_wait_for_ever(self):
         count, waited = await self.count(0)
-        self.assertEqual((count, round(waited)), (0, 10))
+        self.assertEqual((count, round(waited)), (0, 11))
 
 
 class Words(unittest.TestCase):
@@ -717,7 +560,7 @@ class Logs(unittest.TestCase):
             log._file.close()
 
 
-class Elections(unittest.IsolatedAsyncioTestCase):
+class Elections(unittest.TestCase):
     """`join` and `leave` of what was destroyed wait for `elect`."""
 
     async def called(self, gone):
@@ -734,23 +577,23 @@ class Elections(unittest.IsolatedAsyncioTestCase):
             pass
 
         it.hooks.says, it._empty, it._note_join = says, empty, unittest.mock.Mock()
-        with patch.multiple(store, AGAIN=0.001):
-            task = asyncio.create_task(it._join(1))
-            await asyncio.sleep(0.05)
-            before = [*called]
-            it._elected = 1
-            await task
+        task = asyncio.create_task(it._join(1))
+        await asyncio.sleep(50)
+        before = [*called]
+        it._elected = 1
+        await task
         return before, called
 
+    @clock.virtual
     async def test_both_are_called_once_elect_has_said_who_is_primary(self):
         self.assertEqual(await self.called(set()), ([], ["join"]))
         self.assertEqual(await self.called({1}), ([], ["leave"]))
 
 
-class Strikes(unittest.IsolatedAsyncioTestCase):
+class Strikes(unittest.TestCase):
     """A strike on slow disks, as `--disks` has them."""
 
-    async def asyncSetUp(self):
+    async def begin(self):
         self.store = store = Store.__new__(Store)
         store.disks, store.emptied, store.joined, self.begun = None, set(), {}, []
         store.hooks, store.not_whole = unittest.mock.Mock(ends={}), {}
@@ -763,7 +606,9 @@ class Strikes(unittest.IsolatedAsyncioTestCase):
     async def empty(self, number):
         await asyncio.sleep(0.01)
 
+    @clock.virtual
     async def test_nobody_comes_back_before_the_losses_of_all_are_told(self):
+        await self.begin()
         with patch.multiple(self.store, _keep=self.keep, _empty=self.empty, create=True):
             await self.store.strike([0, 2], Kind.REBOOT_AND_DELETE)
             self.assertEqual(self.begun, [])  # the losses are told before the next await

@@ -1,4 +1,5 @@
 """Draws faults for a real store, does those that a guard allows, and counts lost records."""
+import asyncio
 import os
 from contextlib import suppress
 
@@ -14,3 +15,13 @@ def say(text: str) -> None:
     """Prints a text, as long as somebody reads."""
     with suppress(BrokenPipeError):
         os.write(1, f"{text}\n".encode())
+
+
+def clock() -> float:
+    """Seconds by the loop, which wakes by them who sleeps; a test has a loop whose time is its own."""
+    return asyncio.get_running_loop().time()
+
+
+def clock_ns() -> int:
+    """The same in nanoseconds."""
+    return round(clock() * 1e9)

@@ -1,7 +1,6 @@
 """Tries each hook on a calm cluster, and says which one is wrong."""
 import asyncio
 import math
-import time
 from collections.abc import Iterable, Iterator, Mapping, Sequence
 from pathlib import Path
 from typing import TYPE_CHECKING
@@ -9,7 +8,7 @@ from typing import TYPE_CHECKING
 from faultyard import Key, Kind
 from faultyard.plans import PAUSES, Order
 
-from . import HOOK, USAGE, Fault
+from . import HOOK, USAGE, Fault, clock
 from .clients import Told, pairs
 from .traces import traces
 
@@ -68,8 +67,8 @@ class HookCheck:
     async def some_records(self) -> None:
         """Waits until some are acknowledged, as a store that writes a few a second needs."""
         await asyncio.sleep(BEFORE)
-        until = time.monotonic() + LONG
-        while len(self.run.ledger.records) < FEW and time.monotonic() < until:
+        until = clock() + LONG
+        while len(self.run.ledger.records) < FEW and clock() < until:
             await asyncio.sleep(SOON)
 
     async def _order(self, kind: Kind, name: str) -> None:

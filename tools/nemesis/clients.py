@@ -1,6 +1,5 @@
 """The clients of a store: hooks that run on, which write and read, and what they are told."""
 import asyncio
-import time
 from asyncio.subprocess import PIPE, Process
 from collections.abc import Awaitable, Callable
 from contextlib import suppress
@@ -8,7 +7,7 @@ from random import Random
 
 from faultyard.harness import Harness
 
-from . import HOOK, Fault
+from . import HOOK, Fault, clock
 from .history import PREFIX, Client, History, Operation
 from .hook_log import MOST
 from .hooks import Hooks
@@ -177,7 +176,7 @@ class Clients:
     ) -> dict[str, Operation]:
         """Asks a process for each of these records, for as many as it answers for in time."""
         queue, asked = list(reversed(keys)), dict[str, Operation]()
-        until = time.monotonic() + self.patience(len(keys))
+        until = clock() + self.patience(len(keys))
 
         async def once(process: Process) -> str | None:
             operation = await self._check_one(process, client, number, queue[-1])
@@ -187,7 +186,7 @@ class Clients:
             return operation.error
 
         def is_over() -> bool:
-            return not queue or not self.is_whole(number) or time.monotonic() > until
+            return not queue or not self.is_whole(number) or clock() > until
 
         await self._talk("check", once, is_over)
         return asked
@@ -217,7 +216,7 @@ class Clients:
 
     async def read(self, is_noted: bool = True) -> Pairs | None:
         """What is left, which may need some tries; None if nothing could be read."""
-        until = time.monotonic() + self.hooks.seconds("read")
+        until = clock() + self.hooks.seconds("read")
         while True:
             with self.history.reading() as reading:
                 if (text := await self.hooks.call("read")) is not None:
@@ -225,7 +224,7 @@ class Clients:
                     if is_noted:
                         self.history.read_all(reading, found)
                     return found
-            if time.monotonic() > until or not self.ledger.able:
+            if clock() > until or not self.ledger.able:
                 return None
             await asyncio.sleep(0.5)
 

@@ -2,22 +2,20 @@
 import asyncio
 import os
 import shutil
-import socket
 from argparse import Namespace
 from asyncio.subprocess import PIPE, Process
 from collections.abc import AsyncIterator, Callable, Sequence
 from contextlib import asynccontextmanager, suppress
 from pathlib import Path
-from random import SystemRandom
 from typing import Any, NamedTuple
 
 import faultyard
 from faultyard import ClusterFile, Key
 from faultyard.ledger import Ledger
-from keeper import output, running
 
-from . import HOOK, TOOL, USAGE, Fault
+from . import HOOK, USAGE, Fault
 from .hook_log import HookLog
+from .machine import Machine
 
 NEEDED = {"start", "whole", "write", "read"}
 KNOWN = NEEDED | {"hooks", "setup", "ready", "join", "leave", "elect", "pause", "resume"}
@@ -47,19 +45,24 @@ class End(NamedTuple):
 
 class Hooks:
     def __init__(
-        self, words: Namespace, file: ClusterFile, ledger: Ledger, hosts: Sequence[str] = ()
+        self,
+        words: Namespace,
+        file: ClusterFile,
+        ledger: Ledger,
+        machine: Machine,
+        hosts: Sequence[str] = (),
     ) -> None:
         self.names = {"hooks"}  # which there are
         self.ends: dict[int | str, End] = {}  # of the last hook of each process, and of the others
         self.asked: dict[int | str, str] = {}  # the call that goes on of each, which may hang
-        self._path, self._ledger = words.hooks, ledger
+        self._path, self._ledger, self._machine = words.hooks, ledger, machine
         self.before: Callable[[int], list[str]] = lambda number: []  # the words of start
         self.limit: float = words.hook_timeout
         self._zones = [place[Key.ZONE] for place in file.places]
         self._log = HookLog(words.out / "hooks.log", ledger.now)
         self._env = os.environ | {
             "FY_DIR": str(words.out),
-            "FY_PORT": str(free_ports(PORTS * len(file.places))),
+            "FY_PORT": str(machine.free_ports(PORTS * len(file.places))),
             "FY_COUNT": str(len(file.places)),
             "FY_NAMES": " ".join(place[Key.PROCESS] for place in file.places),
             "FY_ZONES": " ".join(self._zones),
@@ -101,7 +104,7 @@ class Hooks:
         shell = '"$0" setup < /dev/null >&2; echo $?; exec sleep infinity'
         with self._log.of("setup") as log:
             files = {"stdout": PIPE, "stderr": log, "env": self._variables()}
-            async with running("sh", "-c", shell, self._path, **files) as process:
+            async with self._machine.running("sh", "-c", shell, self._path, **files) as process:
                 assert process.stdout
                 status = None
                 with suppress(TimeoutError):
@@ -122,8 +125,8 @@ class Hooks:
         before = self.before(*numbers) if name == "start" else []
         with self._log.of(called(name, numbers)) as log:
             more = {"env": self._variables(*numbers), "stderr": log} | files
-            async with running(*before, self._path, name, *numbers, **more) as process:
-                yield process
+            async with self._machine.running(*before, self._path, name, *numbers, **more) as it:
+                yield it
 
     async def call(self, name: str, *numbers: int, **variables: str) -> str | None:
         """What a hook prints; None if it says no or hangs. One that there isn't says yes."""
@@ -136,7 +139,8 @@ class Hooks:
         try:
             with suppress(TimeoutError), self._log.of(call) as log:
                 async with asyncio.timeout(self.seconds(name)):
-                    status, text = await output(self._path, name, *numbers, env=env, stderr=log)
+                    words = self._path, name, *numbers
+                    status, text = await self._machine.output(*words, env=env, stderr=log)
         finally:
             self.asked.pop(asked, None)  # another of it may go on, as a pause
         self.ends[asked] = End(call, status, self._log.said(call))
@@ -150,7 +154,7 @@ class Hooks:
         shutil.rmtree(copy, ignore_errors=True)
         # Some stores look at the owner of their files, which shutil doesn't keep.
         with self._log.of(f"cp for salvage {number}") as log:
-            await output("cp", "-a", folder / str(number), copy, stderr=log)
+            await self._machine.output("cp", "-a", folder / str(number), copy, stderr=log)
         return copy
 
     async def salvage(self, number: int, copy: Path) -> str | None:
@@ -174,16 +178,3 @@ class Hooks:
 def called(name: str, numbers: Sequence[int]) -> str:
     """How a hook is called."""
     return " ".join([name, *map(str, numbers)])
-
-
-def free_ports(count: int) -> int:
-    """The first of a block of loopback ports, which is held against other runs."""
-    for base in SystemRandom().sample(range(20000, 31000, 100), 100):
-        with suppress(OSError):
-            held = socket.socket(socket.AF_UNIX)
-            held.bind(f"\0faultyard-nemesis-{base}")
-            for port in range(base, base + count):
-                socket.create_server(("127.0.0.1", port)).close()
-            held.detach()  # so it stays open until the tool ends
-            return base
-    raise Fault(TOOL, f"there are no {count} free ports in a row from 20000 to 31000")

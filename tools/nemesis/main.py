@@ -7,8 +7,9 @@ import shutil
 import signal
 import sys
 import tempfile
-from collections.abc import Iterator
+from collections.abc import Callable, Coroutine, Iterator, Sequence
 from pathlib import Path
+from typing import Any
 
 import faultyard
 from faultyard import ConfigRefused, FaultyardError, Guard, InvalidAct, Kind, NotFound
@@ -22,6 +23,7 @@ from . import __doc__ as about
 from .edn import Convert
 from .evidence import told_cases
 from .disks import KINDS as KINDS_OF_DISKS
+from .machine import Machine
 from .net import WAYS
 from .orders import KINDS
 from .picture import draw
@@ -52,7 +54,7 @@ def weights(text: str) -> list[float]:
     return found
 
 
-def parsed() -> argparse.Namespace:
+def parsed(given: Sequence[str] | None = None) -> argparse.Namespace:
     """The words of the command line, which have to be right."""
     it = argparse.ArgumentParser("faultyard-nemesis", description=about, allow_abbrev=False)
     add = it.add_argument
@@ -102,7 +104,7 @@ def parsed() -> argparse.Namespace:
     add("--quiet", action="store_true", help="print the summary alone")
     text = "print the history of a run that has ended as EDN, and do nothing else"
     add("--edn", action=Convert, metavar="FOLDER", help=text)
-    words = it.parse_args()
+    words = it.parse_args(given)
     for name, least in LEAST.items():
         if not least <= vars(words)[name] < 1e9:
             it.error(f"--{name.replace('_', '-')} has to be {least} or more")
@@ -144,7 +146,7 @@ def read_tokens(path: Path) -> dict[int, str]:
     return {int(row[1]): row[0] for row in rows if len(row) == 2 and row[1].isdigit()}
 
 
-async def chaos(words: argparse.Namespace) -> int:
+async def chaos(words: argparse.Namespace, machine: Machine) -> int:
     """A run, and how the tool ends."""
     loop, task = asyncio.get_running_loop(), asyncio.current_task()
     assert task
@@ -154,7 +156,7 @@ async def chaos(words: argparse.Namespace) -> int:
     with Guard(words.config, folder=words.out, server=words.guard, tokens=tokens) as guard:
         if guard.journal_len():
             raise Fault(USAGE, f"{words.guard} has entries: a run needs a new audit")
-        run = Run(words, guard)
+        run = Run(words, guard, machine)
         try:
             await run.whole()
         except (asyncio.CancelledError, Fault) as fault:
@@ -188,9 +190,21 @@ def main() -> int:
     if sys.version_info < (3, 12):  # later it is the default
         asyncio.set_child_watcher(asyncio.PidfdChildWatcher())
     try:
+        return ended(words)
+    finally:
+        end_children()
+
+
+def ended(
+    words: argparse.Namespace,
+    machine: Machine = Machine(),
+    run: Callable[[Coroutine[Any, Any, int]], int] = asyncio.run,
+) -> int:
+    """How the tool ends, on a machine, by a loop that runs; what ends it before its time is told."""
+    try:
         words.out = Path(words.out or tempfile.mkdtemp(prefix="faultyard-nemesis-")).resolve()
         words.out.mkdir(parents=True, exist_ok=True)
-        return asyncio.run(chaos(words))
+        return run(chaos(words, machine))
     except asyncio.CancelledError as interrupted:
         print(f"faultyard-nemesis: interrupted; {words.out}", file=sys.stderr)
         return 128 + int(interrupted.args[0])
@@ -204,8 +218,6 @@ def main() -> int:
         if isinstance(fault, ConfigRefused) and (more := explain(words.config)):
             print(more, file=sys.stderr)
         return int(status)
-    finally:
-        end_children()
 
 
 def rising(events: Path) -> Iterator[str]:

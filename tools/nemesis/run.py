@@ -15,6 +15,7 @@ from .checks import HookCheck
 from .clients import Clients, Pairs, pairs
 from .evidence import Case, Course, wrong_line
 from .history import History, Operation
+from .machine import Machine
 from .orders import Orders, Timed
 from .store import AGAIN, Store, cancelled
 from .summary import Amount, failures
@@ -42,8 +43,8 @@ class Run(Store):
     cases: list[dict[str, Any]] = []  # the evidence of each that isn't kept, as in records.jsonl
     is_unread = False  # whether `read` hung, so that only disks and `check` can say what is left
 
-    def __init__(self, words: Namespace, guard: Guard) -> None:
-        super().__init__(words, guard)
+    def __init__(self, words: Namespace, guard: Guard, machine: Machine) -> None:
+        super().__init__(words, guard, machine)
         self.down: list[str] = []  # who did not run at the end
         self.notes: list[str] = []  # who was not back at the end, and why nothing could be read
         self.history = History(words.out / "history.jsonl", self.ledger)

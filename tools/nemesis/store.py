@@ -6,7 +6,6 @@ import shutil
 import signal
 import sys
 import tempfile
-import time
 from argparse import Namespace
 from asyncio.subprocess import DEVNULL, Process
 from collections.abc import AsyncIterator, Sequence
@@ -16,12 +15,12 @@ from pathlib import Path
 from faultyard import ClusterFile, Guard, Kind
 from faultyard.harness import Harness
 from faultyard.plans import Order
-from keeper import signal_below
 
-from . import HOOK, Fault, say
+from . import HOOK, Fault, clock, clock_ns, say
 from .crashes import Crashes, end_of_log, in_words
 from .disks import Cut, disks_of
 from .hooks import End, Hooks
+from .machine import Machine
 from .net import Net
 
 DEAF = Path(__file__).with_name("deaf.py")
@@ -34,16 +33,18 @@ LIVES = 0.5  # seconds after which a process counts as ready where no hook tells
 
 
 class Store(Harness):
-    def __init__(self, words: Namespace, guard: Guard) -> None:
+    def __init__(self, words: Namespace, guard: Guard, machine: Machine) -> None:
         file, events = ClusterFile.read(words.config), words.out / "events.jsonl"
         show = (lambda text: None) if words.quiet else say
-        super().__init__(guard, file, events, unguarded=words.unguarded, show=show)
+        more = {"unguarded": words.unguarded, "show": show, "clock": clock_ns}
+        super().__init__(guard, file, events, **more)
         count = len(file.places)
         self.net = Net(words.out, count, words.clog) if words.net else None
         self.disks = disks_of(words, count) if words.disks else None
         self.cuts: list[tuple[str, Cut]] = []  # whose power was cut, and what that left
-        self.words = words
-        self.hooks = Hooks(words, file, self.ledger, self.net.hosts if self.net else ())
+        self.words, self._machine = words, machine
+        hosts = self.net.hosts if self.net else ()
+        self.hooks = Hooks(words, file, self.ledger, machine, hosts)
         self.hooks.before = self._before
         self._keeping: dict[int, asyncio.Task[None]] = {}  # each brings a process back
         self._started: dict[int, Process] = {}
@@ -80,9 +81,9 @@ class Store(Harness):
 
     async def calm(self) -> None:
         """Waits until all are up and whole."""
-        began, seconds, is_told = time.monotonic(), self.hooks.seconds("join"), False
+        began, seconds, is_told = clock(), self.hooks.seconds("join"), False
         while waiting := self.waiting():
-            waited, logs = time.monotonic() - began, f"the logs in {self.words.out} may say why"
+            waited, logs = clock() - began, f"the logs in {self.words.out} may say why"
             if waited > seconds:
                 raise Fault(HOOK, f"after {seconds:g} seconds {waiting[0]}; {logs}")
             if waited > PATIENT and not is_told:
@@ -171,7 +172,7 @@ class Store(Harness):
         for number in processes:
             process = self._started.get(number)
             if process and process.returncode is None:
-                signal_below(process.pid, signal.SIGSTOP)
+                self._machine.signal_below(process.pid, signal.SIGSTOP)
 
     async def _cut(self, processes: Sequence[int]) -> None:
         """Cuts the power of their disks: what the order's tear doesn't keep is lost."""
@@ -214,7 +215,7 @@ class Store(Harness):
             elif process is None or process.returncode is not None:
                 await self.hooks.call(hook, number)
             elif hook not in self.hooks.names:
-                signal_below(process.pid, sent)
+                self._machine.signal_below(process.pid, sent)
             elif not await self.hooks.says(hook, number) and process.returncode is None:
                 raise Fault(HOOK, f"{self.hooks.ends[number]}; it may not fail")
 
@@ -249,7 +250,7 @@ class Store(Harness):
         while number not in self.gone:
             with (self.words.out / f"{self.names[number]}.log").open("ab") as log:
                 begin, files = log.tell(), {"stdin": DEVNULL, "stdout": log, "stderr": log}
-                self._began[number] = time.monotonic()
+                self._began[number] = clock()
                 async with self.hooks.running("start", number, **files) as process:
                     self._started[number] = process
                     while process.returncode is None:
@@ -276,7 +277,7 @@ class Store(Harness):
         """Makes it a new member, one after the other; or has it leave for good."""
         hook = "leave" if number in self.gone else "join"
         while number in self.emptied:
-            is_free = self._joining in self.up or self._alone_until < time.monotonic()
+            is_free = self._joining in self.up or self._alone_until < clock()
             if (is_free or self._joining == number) and self._is_elected():
                 self._joining, self._alone_until = number, math.inf
                 if hook == "join":
@@ -287,7 +288,7 @@ class Store(Harness):
                     if hook == "join":
                         self._note_join(number)
             await asyncio.sleep(AGAIN)
-        self._alone_until = 0.0 if number in self.gone else time.monotonic() + ALONE
+        self._alone_until = 0.0 if number in self.gone else clock() + ALONE
         self.note(hook, process=number)
 
     async def look_at_emptied(self, number: int) -> None:
@@ -309,7 +310,7 @@ class Store(Harness):
                 await asyncio.sleep(LIVES)
             if await self.hooks.says("ready", number) and process.returncode is None:
                 self._ended.pop(number, None)
-                self.starts.append(time.monotonic() - self._began[number])
+                self.starts.append(clock() - self._began[number])
                 self.tell_up(number)
         elif number in self.ledger.destroyed and self._is_elected():
             now = self.ledger.now()

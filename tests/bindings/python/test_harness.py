@@ -10,7 +10,6 @@ import unittest
 from itertools import islice
 from pathlib import Path
 from random import Random
-from unittest import mock
 
 import common
 import faultyard
@@ -183,11 +182,11 @@ class LedgerTest(unittest.TestCase):
 
     def test_the_times_without_a_write_count_the_first_and_the_last(self):
         times = iter([0, 3_000_000_000, 3_500_000_000, 8_500_000_000])
-        with mock.patch("faultyard.ledger.time.monotonic_ns", lambda: next(times)):
-            self.ledger.begin()
-            self.acknowledge("a")
-            self.acknowledge("b")
-            self.ledger.stop()
+        self.ledger = Ledger(self.guard, clock=lambda: next(times))
+        self.ledger.begin()
+        self.acknowledge("a")
+        self.acknowledge("b")
+        self.ledger.stop()
         self.assertEqual(self.ledger.pauses(), [3.0, 0.5, 5.0])
         self.assertEqual(self.ledger.longest_pause(), 5.0)
 

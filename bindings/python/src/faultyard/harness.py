@@ -5,6 +5,7 @@ from __future__ import annotations
 import asyncio
 import json
 import statistics
+import time
 from abc import ABC, abstractmethod
 from pathlib import Path
 from typing import (
@@ -55,13 +56,14 @@ class Harness(ABC):
         *,
         unguarded: bool = False,
         show: Callable[[str], None] = print,
+        clock: Callable[[], int] = time.monotonic_ns,
     ) -> None:
         """`events` is a file that gets a line of JSON for whatever happens.
 
         `unguarded`: what was ordered is done, whatever the guard says. `show` takes a line for each
-        order.
+        order. `clock` tells the time in nanoseconds.
         """
-        self.guard, self.file, self.ledger = guard, file, Ledger(guard)
+        self.guard, self.file, self.ledger = guard, file, Ledger(guard, clock=clock)
         self.storage, self.fault = file.actor(Role.STORAGE), file.actor(Role.FAULT)
         self.unguarded = unguarded
         self.names = [place[Key.PROCESS] for place in file.places]

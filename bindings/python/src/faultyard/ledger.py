@@ -3,7 +3,7 @@
 from __future__ import annotations
 
 import time
-from typing import Dict, List, Mapping, NamedTuple, Optional, Set, Tuple
+from typing import Callable, Dict, List, Mapping, NamedTuple, Optional, Set, Tuple
 
 from .guard import Guard
 
@@ -59,8 +59,9 @@ class Ledger:
     that it has to get it back.
     """
 
-    def __init__(self, guard: Guard) -> None:
-        self._guard = guard
+    def __init__(self, guard: Guard, *, clock: Callable[[], int] = time.monotonic_ns) -> None:
+        """`clock` tells the time in nanoseconds, from any beginning."""
+        self._guard, self._clock = guard, clock
         self._began: Optional[int] = None
         self._stopped: Optional[float] = None
         self._sent = self._late = 0
@@ -78,7 +79,7 @@ class Ledger:
 
     def begin(self) -> None:
         """Time goes on from 0."""
-        self._began = time.monotonic_ns()
+        self._began = self._clock()
 
     def stop(self) -> None:
         """No more is written."""
@@ -94,7 +95,7 @@ class Ledger:
 
     def now_ns(self) -> int:
         """Nanoseconds since the beginning, 0 before."""
-        return 0 if self._began is None else time.monotonic_ns() - self._began
+        return 0 if self._began is None else self._clock() - self._began
 
     def send(self) -> int:
         """The number of a write that is sent now, from 1."""

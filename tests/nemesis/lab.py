@@ -1,0 +1,139 @@
+"""Runs of faultyard-nemesis in this process, on a toy store and in the time of clock.py."""
+
+from __future__ import annotations
+
+import io
+import json
+import os
+import re
+import shutil
+import sys
+import tempfile
+import unittest
+from collections.abc import Callable
+from contextlib import redirect_stderr
+from dataclasses import dataclass
+from pathlib import Path
+from typing import Any
+from unittest.mock import patch
+
+HERE = Path(__file__).resolve().parent
+ROOT = HERE.parent.parent
+CLUSTER = HERE / "three.toml"
+for place in (ROOT / "tools", ROOT / "bindings/python/src"):
+    if str(place) not in sys.path:
+        sys.path.append(str(place))
+
+import clock  # noqa: E402
+from nemesis import main  # noqa: E402
+from toy import Toy  # noqa: E402
+
+HOOKS = HERE / "mystore"  # some executable, which isn't called
+# In memory, where no test waits for a disk that others keep busy.
+MEMORY = "/dev/shm" if os.access("/dev/shm", os.W_OK) else None
+COUNTS = re.compile(r"^(\d+) acknowledged: (.*); audit ", re.M)
+
+
+@dataclass(frozen=True)
+class Ran:
+    """What a run came to."""
+
+    status: int
+    told: str  # on standard output, then on standard error
+    out: Path
+    toy: Toy
+
+    def lines(self, name: str) -> list[Any]:
+        """The JSON lines of a file, if it is there."""
+        path = self.out / name
+        return [json.loads(it) for it in path.read_text().splitlines()] if path.exists() else []
+
+    def events(self, what: str) -> list[Any]:
+        return [it for it in self.lines("events.jsonl") if it["what"] == what]
+
+    def orders(self) -> list[Any]:
+        return self.events("order")
+
+    def history(self, f: str, kind: str) -> list[Any]:
+        return [it for it in self.lines("history.jsonl") if (it["f"], it["type"]) == (f, kind)]
+
+    def audit(self) -> list[Any]:
+        return [json.loads(it) for it in (self.out / "audit").read_text().splitlines()[1:]]
+
+    @property
+    def acked(self) -> int:
+        found = COUNTS.search(self.told)
+        assert found, self.told
+        return int(found[1])
+
+    @property
+    def counts(self) -> dict[str, int]:
+        """How many records there are of each verdict, as was told."""
+        found = COUNTS.search(self.told)
+        assert found, self.told
+        return {name: int(count) for count, name in (it.split() for it in found[2].split(", "))}
+
+
+def ran(toy: Toy, out: Path, *words: object, during: Callable[[], object] | None = None) -> Ran:
+    """A run with these words, and `during` called in its loop at the beginning."""
+    told, said = list[str](), io.StringIO()
+
+    async def chaos(whole: Any) -> int:
+        if during:
+            during()
+        return int(await whole)
+
+    given = [str(it) for it in (*words, "--out", out)]
+    if not words or not str(words[0]).endswith(".toml"):
+        given = [str(CLUSTER), str(HOOKS), *given]
+    with patch("nemesis.main.say", told.append), patch("nemesis.store.say", told.append):
+        with redirect_stderr(said):
+            status = main.ended(main.parsed(given), toy, lambda it: clock.run(chaos(it)))
+    return Ran(status, "".join(f"{it}\n" for it in told) + said.getvalue(), out, toy)
+
+
+class Case(unittest.TestCase):
+    """A folder of its own, and runs in it."""
+
+    maxDiff = None
+
+    def setUp(self) -> None:
+        room = tempfile.TemporaryDirectory(prefix="nemesis-test-", dir=MEMORY)
+        self.room = Path(self.enterContext(room))
+        self.runs = 0
+
+    def ran(self, *words: object, toy: Toy, status: int, keep: bool = True, **more: Any) -> Ran:
+        """A run that has to end with this status; what its processes had is kept."""
+        self.runs += 1
+        kept = ["--keep"] if keep else []
+        it = ran(toy, self.room / str(self.runs), *words, *kept, **more)
+        self.assertEqual(it.status, status, it.told)
+        return it
+
+    def given(self, *orders: tuple[float, str, str]) -> tuple[str, Path]:
+        """Words for a run that has these orders: when, which process, and the kind."""
+        path = self.room / "given.jsonl"
+        lines = [
+            {"t": at, "what": "order", "key": "processid", "value": who, "order": kind}
+            for at, who, kind in orders
+        ]
+        text = "".join(json.dumps(line) + "\n" for line in [{"t": 0, "what": "ready"}, *lines])
+        path.write_text(text)
+        return "--replay", path
+
+    def remove(self, it: Ran) -> None:
+        """Takes a run's folder away, where there are many."""
+        shutil.rmtree(it.out)
+
+
+def main_of_a_run() -> int:
+    """A run of an honest store by the words of the command line, for a tool that runs runs."""
+    with tempfile.TemporaryDirectory(prefix="nemesis-test-", dir=MEMORY) as room:
+        it = ran(Toy(), Path(room, "out"), *sys.argv[1:])
+        print(it.told, end="")
+    return it.status
+
+
+if __name__ == "__main__":
+    sys.dont_write_bytecode = True
+    sys.exit(main_of_a_run())

@@ -1,0 +1,539 @@
+"""What becomes of each record, and whose fault it is said to be: verdicts, cases and their words.
+
+Runs of stores for each verdict, in virtual time, and small histories that are written out by hand.
+Expected are the definitions of docs/NEMESIS.md. All that a test says of a verdict's words stands in
+this file.
+"""
+
+import asyncio
+import unittest
+
+from faultyard.ledger import Heal, Loss, Record
+from lab import Case, Ran, ran
+from nemesis.evidence import Course
+from nemesis.evidence import Case as Evidence
+from nemesis.history import Operation
+from nemesis.verdicts import Left, Verdict, judged, wrong
+from toy import Call, Denies, Drops, DropsWhileEmpty, Forgetful, Hole, Invents, Lags, Old
+from toy import Partial, Quorum, Refuses, SaysMore, Shy, Toy, Twice, Unsynced, Wrong, ends, is_nth
+
+READERS = "start ready whole write read check salvage"
+KEY, VALUE = "r/000000001", "a"
+
+
+class Stores(Case):
+    """A store for each verdict."""
+
+    CALM = ("--hook-timeout", 2, "--seconds", 2, "--quiet")
+
+    def judged(
+        self, toy: Toy, status: int, *words: object, **counts: int
+    ) -> tuple[Ran, list[dict[str, object]]]:
+        """A run of a store, and its cases; the counts that aren't given have to be 0."""
+        it = self.ran(*self.CALM, *words, toy=toy, status=status)
+        self.assertGreater(it.acked, 50)
+        if counts:
+            none = dict.fromkeys(("kept", "lost", "stale", "unreadable", "wrong"), 0)
+            self.assertEqual(it.counts, none | counts)
+        return it, it.lines("records.jsonl")
+
+    def nth(self, toy: Toy, every: int) -> list[str]:
+        """Keys of each so-manyth of the acknowledged records."""
+        return sorted(key for key in toy.acked if is_nth(key, every))
+
+    def test_kept(self):
+        given = self.given((0.5, "p1", "RebootAndDelete"), (1, "p2", "Reboot"))
+        toy = Toy(listed=f"{READERS} fresh")
+        it, cases = self.judged(toy, 0, *given, "--seconds", 4)
+        self.assertEqual(it.counts["kept"], len(toy.acked))
+        self.assertEqual(sum(it.counts.values()), len(toy.acked))
+        self.assertEqual(cases, [])
+        reads = it.history("read", "ok")
+        self.assertEqual({line["node"] for line in reads}, {None, 0, 1, 2})
+        for node in (0, 1, 2):  # each was asked for each record at the end
+            told = {tuple(line["value"]) for line in reads if line["node"] == node}
+            self.assertGreaterEqual(told, set(toy.acked.items()))
+
+    def test_a_write_that_was_refused_and_done_is_never_wrong(self):
+        toy = Toy(0, Refuses(3), listed=READERS)
+        it, cases = self.judged(toy, 0, *self.given())
+        self.assertEqual(it.counts["kept"], len(toy.acked))
+        refused = [line for line in it.history("write", "info") if line.get("error") == "no"]
+        self.assertGreater(len(refused), 10)
+        self.assertEqual(cases, [])
+
+    def test_an_acknowledgement_too_many_is_one_of_a_write_that_was_not_done(self):
+        """The tool takes it for the answer to the next write, which wasn't read yet; the store has
+        done that too in the end, but for the last of each writer."""
+        toy = Toy(0, SaysMore(5), listed=READERS)
+        it, cases = self.judged(toy, 1, *self.given())
+        disks = [toy.disk(number) for number in range(3)]
+        acked = {line["value"][0] for line in it.history("write", "ok")}
+        lost = {key for key in acked if not any(key in disk for disk in disks)}
+        self.assertTrue(lost)
+        self.assertEqual({case["key"] for case in cases if case["verdict"] == "lost"}, lost)
+
+    def test_stale(self):
+        listed = f"{READERS} fresh"
+        it, cases = self.judged(Toy(0, Lags(0.5), listed=listed), 7, *self.given())
+        self.assertGreater(it.counts["stale"], 0)
+        self.assertEqual(it.counts["kept"] + it.counts["stale"], it.acked)
+        self.assertEqual({case["verdict"] for case in cases}, {"stale"})
+        self.assertTrue(all(0 < case["stale"]["seconds"] <= 0.5 for case in cases))
+        text = r"stale: \d+ records, the longest r/\d+: p\d lacked it after 0.\d+ s"
+        self.assertRegex(it.told, f"{text}, though the hooks promise fresh\n")
+        it, _ = self.judged(Toy(0, Lags(0.5), listed=READERS), 0, *self.given())
+        self.assertRegex(it.told, f"{text}\n")
+
+    def test_one_process_that_lags_makes_records_stale(self):
+        toy = Toy(0, Lags(0.3, 1), listed=READERS)
+        it, cases = self.judged(toy, 0, *self.given())
+        self.assertGreater(it.counts["stale"], 0)
+        self.assertEqual({case["stale"]["process"] for case in cases}, {"p1"})
+
+    def test_a_process_that_lags_at_the_end_has_lost_nothing(self):
+        """It is asked for more records than it can tell in time, and each that it lacked is asked
+        for again."""
+        toy = Toy(0, Shy(0.2), listed=READERS)
+        it, _ = self.judged(toy, 0, *self.given(), "--seconds", 6, "--readers", 0)
+        self.assertEqual((it.counts["lost"], it.counts["kept"] + it.counts["stale"]), (0, it.acked))
+        self.assertGreater(it.counts["stale"], 10)
+        text = r"answered for (\d+) of (\d+) records in at most [\d.]+ s, not for the others\n"
+        self.assertRegex(it.told, rf"\nat the end `check` of p1 {text}")
+        found = [line.split() for line in it.told.splitlines() if "answered for" in line]
+        for *_, answered, _, asked in (line[: line.index("records")] for line in found):
+            self.assertTrue(10 < int(answered) < int(asked) == it.acked)
+
+    def test_lost_where_one_process_alone_lacks_it(self):
+        toy = Toy(0, Hole(1, 7), listed=READERS)
+        it, cases = self.judged(toy, 1, *self.given())
+        self.assertEqual((it.counts["wrong"], it.counts["unreadable"]), (0, 0))
+        self.assertEqual(sorted(case["key"] for case in cases), self.nth(toy, 7))
+        self.assertEqual({case["verdict"] for case in cases}, {"lost"})
+        for case in cases:
+            self.assertIn("check", case["lacks"]["p1"])
+            self.assertIn("check", case["holds"]["p0"])
+        self.assertIn("p1 lacks it by `check`", it.told)
+        self.assertIn("and p0 p2 and `read` has it: the store lost it there", it.told)
+
+    def test_lost_where_a_process_serves_old_answers_for_ever(self):
+        """Its disk has all."""
+        toy = Toy(0, Old(2, 1.5), listed=READERS)
+        it, cases = self.judged(toy, 1, *self.given(), "--seconds", 3)
+        late = {line["value"][0] for line in it.history("read", "ok") if line["value"][1] is None}
+        self.assertEqual({case["key"] for case in cases}, late & toy.acked.keys())
+        self.assertTrue(cases)
+        for case in cases:
+            self.assertIn("p2 lacks it by `check`", case["fault"])
+            self.assertEqual("p2" in case["holds"], case["key"] in toy.disk(2))
+
+    def test_lost_where_no_disk_has_it(self):
+        """The writes are answered, and never stored."""
+        toy = Toy(0, Drops(1), listed=READERS)
+        it, cases = self.judged(toy, 1, *self.given())
+        self.assertEqual(it.counts["lost"], len(toy.acked))
+        known = "p0 p1 p2 could hold it and were never destroyed since, and none has it"
+        self.assertEqual({case["fault"] for case in cases}, {f"{known}: the store lost it"})
+        lacks = {name: ["check", "salvage"] for name in ("p0", "p1", "p2")}
+        self.assertEqual(cases[0]["lacks"], lacks)
+
+    def test_what_is_dropped_while_another_is_destroyed_is_not_its_fault(self):
+        """p0 is destroyed, and healed later; what was acknowledged meanwhile it couldn't hold."""
+        toy = Toy(0, DropsWhileEmpty(0), listed=READERS, boots=1.0)
+        given = self.given((1, "p0", "RebootAndDelete"))
+        it, cases = self.judged(toy, 1, *given, "--seconds", 6)
+        healed = it.events("heal")[0]["t"]
+        disks = [toy.disk(number) for number in range(3)]
+        lost = {key for key in toy.acked if not any(key in disk for disk in disks)}
+        self.assertTrue(lost)
+        self.assertEqual({case["key"] for case in cases}, lost)
+        early = [case for case in cases if case["acked"] < healed]
+        self.assertGreater(len(early), len(cases) - 4)  # three may be answered as it is healed
+        for case in early:
+            self.assertEqual(case["able"], ["p1", "p2"])
+            self.assertTrue(case["fault"].startswith("p1 p2 could hold it"), case["fault"])
+
+    def test_unreadable_and_what_the_disks_settle(self):
+        """Two of three are killed for good beyond the guard, so that `read` has no quorum."""
+        given = self.given((1, "p0", "KillInstantly"), (1.2, "p1", "KillInstantly"))
+        words = (*given, "--unguarded")
+        it, cases = self.judged(Toy(0, Quorum()), 6, *words)
+        self.assertEqual(it.counts["unreadable"], it.acked)
+        self.assertEqual({case["verdict"] for case in cases}, {"unreadable"})
+        self.assertEqual({case["fault"][:7] for case in cases}, {"unknown"})
+        self.assertNotIn("lost:", it.told)
+        toy = Toy(0, Quorum(), listed="start ready whole write read salvage")
+        it, cases = self.judged(toy, 1, *words)
+        self.assertNotIn("was healed", it.told)
+        lost = toy.acked.keys() - toy.disk(2).keys()
+        self.assertTrue(lost)
+        self.assertEqual({case["key"] for case in cases}, lost)
+        self.assertEqual(it.counts["lost"], len(lost))
+        self.assertEqual(it.counts["kept"], len(toy.acked) - len(lost))
+        self.assertFalse((it.out / "salvage").exists())
+
+    def test_the_files_settle_what_salvage_does_not_tell(self):
+        """Two of three are killed for good, and `salvage` of the third, which loses its first
+        record, fails or tells some."""
+        given = self.given((3, "p0", "KillInstantly"), (3.2, "p1", "KillInstantly"))
+        words = (*given, "--unguarded", "--seconds", 4)
+        for name in ("none", "plain", "some"):
+            with self.subTest(name):
+                listed = f"start ready whole write read salvage {'plain' * (name != 'none')}"
+                toy = Toy(0, Quorum(), listed=listed)
+                toy.own["salvage"] = self.salvage(toy, 3 if name == "some" else None)
+                it, cases = self.judged(toy, 6 if name == "none" else 1, *words)
+                if name == "none":
+                    self.assertEqual(it.counts["unreadable"], it.acked)
+                    continue
+                disk = toy.disk(2)
+                off = toy.acked.keys() - disk.keys()
+                self.assertTrue(off)
+                lost = [case for case in cases if case["verdict"] == "lost"]
+                self.assertEqual({case["key"] for case in lost}, off)
+                lacks = {"p0": ["salvage"], "p1": ["salvage"], "p2": ["files"]}
+                for case in lost:
+                    self.assertEqual(case["lacks"], lacks)
+                kept = 3 if name == "some" else 0
+                unreadable = len(toy.acked) - len(off) - kept
+                counts = (it.counts["kept"], it.counts["lost"], it.counts["unreadable"])
+                self.assertEqual(counts, (kept, len(off), unreadable))
+                have = f"{len(toy.acked) - len(off)} of {len(toy.acked)} records"
+                self.assertIn(f"\nthe files of p2 have something of {have}\n", it.told)
+
+    def salvage(self, toy: Toy, most: int | None):
+        """A hook that loses the first record, and then fails, or tells the next few and that there
+        are more."""
+
+        async def salvage(call: Call) -> int:
+            for folder in (toy.folder / "2", call.env["FY_COPY"]):
+                log = type(toy.folder)(folder, "log")
+                _, *lines = log.read_text().splitlines(keepends=True)
+                log.write_text("".join(lines))
+            if most is None:
+                return 1
+            told = [line.strip() for line in lines if line.split()[0] in toy.acked][:most]
+            for line in [*told, "? ?"]:
+                call.print(line)
+            return 0
+
+        return salvage
+
+    def test_wrong_values(self):
+        toy = Toy(0, Wrong(9), listed=READERS)
+        it, cases = self.judged(toy, 8, *self.given())
+        found = {case["key"] for case in cases}
+        sent = {line["value"][0] for line in it.history("write", "invoke")}
+        self.assertLessEqual({*self.nth(toy, 9)}, found)
+        # the last of them may have been sent, and not acknowledged in time
+        self.assertLessEqual(found, {key for key in sent if is_nth(key, 9)})
+        for case in cases:
+            self.assertEqual((case["verdict"], case["told"]), ("wrong", case["value"][::-1]))
+        self.assertEqual(it.counts["lost"], 0)
+
+    def test_a_record_that_nobody_wrote(self):
+        toy = Toy(0, Invents(), listed=READERS)
+        it, cases = self.judged(toy, 8, *self.given())
+        self.assertEqual((it.counts["kept"], it.counts["wrong"]), (len(toy.acked), 1))
+        self.assertEqual(cases[0]["fault"], "`read` told abc, and nobody wrote that key")
+
+    def test_a_key_that_is_told_twice_counts_by_its_last_value(self):
+        toy = Toy(0, Twice(5), listed=READERS)
+        it, _ = self.judged(toy, 0, *self.given())
+        self.assertEqual(it.counts["kept"], len(toy.acked))
+        toy = Toy(0, Twice(5, "f" * 16), listed=READERS)
+        it, cases = self.judged(toy, 8, *self.given())
+        self.assertEqual(it.counts["wrong"], len(cases))
+        self.assertLessEqual({*self.nth(toy, 5)}, {case["key"] for case in cases})
+
+    def test_a_read_that_lies_is_not_blamed_on_the_store_alone(self):
+        toy = Toy(0, Partial(5), listed=READERS)
+        it, cases = self.judged(toy, 1, *self.given())
+        self.assertEqual(sorted(case["key"] for case in cases), self.nth(toy, 5))
+        fault = "`read` lacks it, and p0 p1 p2 told it by `check`: `read` or the store is wrong"
+        self.assertEqual({case["fault"] for case in cases}, {fault})
+
+    def test_a_check_that_lies_is_not_blamed_on_the_store_alone(self):
+        toy = Toy(0, Denies(2), listed=READERS)
+        it, cases = self.judged(toy, 1, *self.given())
+        self.assertEqual(it.counts["lost"], len(toy.acked))
+        end = "the store lost it there, or `check` is wrong"
+        for case in cases:
+            self.assertIn("check", case["lacks"]["p2"])
+            self.assertTrue(case["fault"].endswith(end), case["fault"])
+
+    def test_a_store_that_acknowledges_before_it_syncs(self):
+        for seed in range(1, 9):
+            it = self.tried(seed)
+            if it.status:
+                break
+        lost = it.lines("lost.jsonl")
+        self.assertIn(f" {len(lost)} lost, 0 stale, 0 unreadable, 0 wrong; audit legal", it.told)
+        when = f"acknowledged at {lost[0]['t']:.2f} s before entry {lost[0]['entry']}: "
+        self.assertRegex(it.told, f"lost: {lost[0]['key']}( and \\d+ more)?, {when}")
+
+    def tried(self, seed: int) -> Ran:
+        words = ("--seed", seed, "--seconds", 8, "--quiet")
+        return ran(Toy(seed, Unsynced(), pace=0.02), self.room / str(seed), *words)
+
+    def test_emptied_servers_that_are_never_filled(self):
+        given = self.given(
+            (3, "p0", "RebootAndDelete"),
+            (7, "p1", "RebootAndDelete"),
+            (11, "p2", "RebootAndDelete"),
+        )
+        it = self.ran("--seconds", 13, *given, toy=Toy(0, Forgetful()), status=1)
+        lost, healed = it.lines("lost.jsonl"), it.events("heal")
+        names = " ".join(f"p{event['process']}" for event in healed)
+        *first, last = (str(event["entry"]) for event in healed)
+        blamed = f"{names} were healed by entries {', '.join(first)} and {last}: `whole` was wrong"
+        self.assertIn(f"lost: {lost[0]['key']} and ", it.told)
+        self.assertIn(f" before entry 0: of those who could hold it {blamed}", it.told)
+
+    def test_read_hangs_or_fails(self):
+        """No record has a verdict, and nobody is blamed."""
+        for hook, status, said in ((None, 3, "hung"), (ends(5), 6, "ended with status 5")):
+            toy = Toy()
+
+            async def hangs(call: Call) -> int:
+                await asyncio.sleep(1e4)
+                return 0
+
+            toy.own["read"] = hook or hangs
+            it = self.ran("--seconds", 3, "--hook-timeout", 2, toy=toy, status=status)
+            self.assertIn(f"nothing could be read in 12 seconds: read {said}", it.told)
+            counts = it.counts
+            found = (counts["kept"], counts["lost"], counts["unreadable"])
+            self.assertEqual(found, (0, 0, len(toy.acked)))
+            self.assertNotIn("lost:", it.told)
+            self.assertFalse((it.out / "lost.jsonl").exists())
+
+
+def write(key=KEY, value=VALUE, began=0, ended=10, type="ok"):
+    return Operation(0, "write", key, value, began, ended, type)
+
+
+def read(value, began, key=KEY, node=0):
+    return Operation(1, "read", key, value, began, began + 1, "ok", node=node)
+
+
+class ByHand(unittest.TestCase):
+    def assert_verdict(self, expected, left, reads=()):
+        (found,) = judged([KEY], {KEY: write()}, reads, left)
+        self.assertEqual(found.verdict, expected)
+        return found
+
+    def test_kept_is_what_a_read_at_the_end_tells(self):
+        self.assert_verdict(Verdict.KEPT, Left({KEY: VALUE}))
+        self.assert_verdict(Verdict.KEPT, Left(None, {2: {KEY: VALUE}}))
+
+    def test_lost_is_what_an_answered_read_at_the_end_lacks(self):
+        self.assert_verdict(Verdict.LOST, Left({}))
+        self.assert_verdict(Verdict.LOST, Left({KEY: VALUE}, {0: {KEY: VALUE}, 2: {KEY: None}}))
+        self.assert_verdict(Verdict.LOST, Left({}, {0: {KEY: VALUE}}, {0: {KEY: VALUE}}))
+
+    def test_unreadable_is_what_nobody_answers_for(self):
+        self.assert_verdict(Verdict.UNREADABLE, Left(None))
+        self.assert_verdict(Verdict.UNREADABLE, Left(None, {2: {}}))
+        self.assert_verdict(Verdict.UNREADABLE, Left(None, disks={0: {}, 1: None}))
+
+    def test_disks_settle_what_nobody_answers_for(self):
+        self.assert_verdict(Verdict.KEPT, Left(None, disks={0: None, 1: {KEY: VALUE}}))
+        self.assert_verdict(Verdict.LOST, Left(None, disks={0: {}, 1: {"r/000000002": "b"}}))
+        self.assert_verdict(Verdict.LOST, Left(None, disks={0: {KEY: "torn"}}))
+
+    def test_files_settle_what_no_disk_tells(self):
+        """Lost is what no disk tells and of which nothing stands in the files of those that don't
+        tell all."""
+        none, other = set(), {"r/000000002"}
+        for disk in (None, {"?": "?"}, {"?": "?", KEY: "torn"}):
+            with self.subTest(disk):
+                disks = {0: disk, 1: {}}
+                self.assert_verdict(Verdict.UNREADABLE, Left(None, disks=disks))
+                self.assert_verdict(Verdict.UNREADABLE, Left(None, disks=disks, traces={0: {KEY}}))
+                self.assert_verdict(
+                    Verdict.UNREADABLE, Left(None, disks={2: None} | disks, traces={0: none})
+                )
+                self.assert_verdict(Verdict.LOST, Left(None, disks=disks, traces={0: other}))
+        told = {0: {"?": "?", KEY: VALUE}, 1: None}
+        self.assert_verdict(Verdict.KEPT, Left(None, disks=told, traces={0: none, 1: none}))
+        self.assert_verdict(Verdict.KEPT, Left({KEY: VALUE}, disks={0: None}, traces={0: none}))
+
+    def test_stale_is_lacked_after_its_acknowledgement_and_found_later(self):
+        found = self.assert_verdict(
+            Verdict.STALE, Left({KEY: VALUE}), [read(None, 12), read(None, 30), read(VALUE, 40)]
+        )
+        self.assertEqual(found.lacking.began, 30)
+        self.assert_verdict(Verdict.LOST, Left({}), [read(None, 30)])
+        self.assert_verdict(Verdict.UNREADABLE, Left(None), [read(None, 30)])
+
+    def test_a_read_that_began_before_the_acknowledgement_may_lack_it(self):
+        self.assert_verdict(Verdict.KEPT, Left({KEY: VALUE}), [read(None, 5), read(None, 10)])
+
+    def test_wrong_is_another_value_than_was_written(self):
+        self.assert_verdict(Verdict.WRONG, Left({KEY: "b"}), [read("b", 30)])
+        self.assert_verdict(Verdict.WRONG, Left({KEY: VALUE}), [read("b", 5)])
+
+    def test_wrong_are_keys_and_values_that_nobody_wrote(self):
+        writes = {KEY: write(), "r/000000002": write("r/000000002", "b", type="info")}
+        right = [
+            read(VALUE, 1),
+            read(None, 2),
+            read("b", 3, "r/000000002"),
+            read("yes", 4, "ready"),
+        ]
+        self.assertEqual(wrong(writes, right), [])
+        faulty = [
+            read("b", 5),
+            read("x", 6, "r/000000002"),
+            read("y", 7, "r/9"),
+            read("z", 8, "r/9"),
+        ]
+        self.assertEqual(wrong(writes, right + faulty), faulty[:3])
+
+
+class Cases(unittest.TestCase):
+    """Five processes, and a record that was acknowledged at second 5, before entry 6."""
+
+    def case(self, left, losses=(), heals=(), orders=(), able=range(5), reads=(), is_fresh=False):
+        course = Course(
+            [f"k{number}" for number in range(5)],
+            orders,
+            [Loss(process, t, entry, 0) for process, t, entry in losses],
+            [Heal(process, t, entry) for process, t, entry in heals],
+            left,
+            is_fresh,
+        )
+        acked = write(began=4_900_000_000, ended=5_000_000_000)
+        (judged_record,) = judged([KEY], {KEY: acked}, reads, left)
+        return Evidence(judged_record, Record(VALUE, 5.0, 6, tuple(able)), course)
+
+    def disks(self, *having, unknown=()):
+        return {n: None if n in unknown else {KEY: VALUE} if n in having else {} for n in range(5)}
+
+    def test_one_who_was_never_destroyed_holds_it(self):
+        left = Left({}, disks=self.disks(2, 4))
+        case = self.case(left, losses=[(2, 6.0, 18), (3, 7.0, 20)])
+        self.assertEqual(case.fault(), "k4 holds it and was never destroyed: the store lost it")
+        line = case.line()
+        self.assertEqual((line["sent"], line["acked"], line["entry"]), (4.9, 5.0, 6))
+        self.assertEqual(line["never_destroyed"], ["k0", "k1", "k4"])
+        self.assertEqual(line["destroyed"], {"k2": [18], "k3": [20]})
+        self.assertEqual(line["holds"], {"k2": ["salvage"], "k4": ["salvage"]})
+        self.assertEqual(sorted(line["lacks"]), ["k0", "k1", "k3"])
+
+    def test_none_of_those_who_were_never_destroyed_has_it(self):
+        case = self.case(Left({}, disks=self.disks()), losses=[(2, 6.0, 18), (3, 7.0, 20)])
+        fault = (
+            "k0 k1 k4 could hold it and were never destroyed since, and none has it:"
+            " the store lost it"
+        )
+        self.assertEqual(case.fault(), fault)
+
+    def test_what_was_destroyed_before_is_not_blamed(self):
+        case = self.case(Left({}, disks=self.disks()), losses=[(2, 3.0, 4)], able=(0, 1, 3, 4))
+        self.assertEqual((case.destroyed, case.never), ({}, {0, 1, 3, 4}))
+        self.assertNotIn("4", case.fault().replace("k4", ""))
+
+    def test_unknown_disks_are_said_to_be_unknown(self):
+        case = self.case(Left({}), losses=[(2, 6.0, 18), (3, 7.0, 20)])
+        fault = (
+            "unknown: k0 k1 k4 could hold it and were never destroyed since, "
+            "and whether the disk of k0 k1 k4 has it is unknown: the store lost it, or `read` lags"
+        )
+        self.assertEqual(case.fault(), fault)
+        case = self.case(Left(None, disks=self.disks(unknown=[3])))
+        self.assertEqual(case.verdict, Verdict.UNREADABLE)
+        self.assertEqual(
+            case.fault(),
+            "unknown: no read was answered, and whether the disk of k3 has it is unknown",
+        )
+
+    def test_files_are_evidence_where_a_disk_does_not_tell_all(self):
+        disks = self.disks(unknown=[3]) | {4: {"?": "?"}}
+        case = self.case(Left(None, disks=disks, traces={3: set(), 4: set()}))
+        self.assertEqual(case.verdict, Verdict.LOST)
+        self.assertEqual(
+            case.line()["lacks"], {f"k{n}": ["salvage" if n < 3 else "files"] for n in range(5)}
+        )
+        self.assertTrue(case.fault().endswith("and none has it: the store lost it"), case.fault())
+        case = self.case(Left(None, disks=disks, traces={3: set(), 4: {KEY}}))
+        self.assertEqual(
+            case.fault(),
+            "unknown: no read was answered, and whether the disk of k4 has it is unknown",
+        )
+
+    def test_all_were_destroyed_as_the_guard_allowed(self):
+        losses = [(0, 6.0, 7), (1, 6.0, 7), (2, 6.0, 7), (3, 7.0, 20), (4, 7.0, 20)]
+        case = self.case(Left({}, disks=self.disks()), losses)
+        fault = "every holder was destroyed by entries 7 and 20, which the guard allowed: tell us"
+        self.assertEqual(case.fault(), fault)
+
+    def test_beyond_the_guard(self):
+        order = {"entry": 7, "does": "RebootAndDelete", "beyond": True, "t": 6.0, "targets": [2, 3]}
+        mild = {"entry": 3, "does": "Reboot", "beyond": True, "t": 2.0, "targets": [2]}
+        losses = [(2, 6.0, 7), (3, 6.0, 7)]
+        case = self.case(Left({}, disks=self.disks()), losses, orders=[mild, order])
+        self.assertEqual(
+            case.fault(), "beyond the guard since entry 7, which destroyed k2 k3 who could hold it"
+        )
+        case = self.case(Left({}, disks=self.disks()), losses, orders=[order], able=(0, 3))
+        self.assertEqual(
+            case.fault(), "beyond the guard since entry 7, which destroyed k3 who could hold it"
+        )
+        case = self.case(Left({}, disks=self.disks(4)), losses, orders=[order])
+        self.assertTrue(case.fault().endswith("; k4 has it"))
+        case = self.case(Left({}, disks=self.disks()), orders=[order | {"entry": 2, "t": 1.0}])
+        self.assertEqual(case.fault(), "beyond the guard since entry 2")
+        self.assertEqual(case.line()["struck"], [])
+
+    def test_one_was_healed_and_lacks_it(self):
+        losses, heals = [(0, 6.0, 7), (1, 8.0, 11)], [(0, 7.0, 9)]
+        case = self.case(Left({}, disks=self.disks()), losses, heals, able=(0, 1))
+        self.assertEqual(case.never, set())
+        fault = (
+            "of those who could hold it k0 was healed by entry 9: `whole` was wrong,"
+            " or the store lost it"
+        )
+        self.assertEqual(case.fault(), fault)
+
+    def test_a_heal_does_not_matter_where_all_were_down_at_once(self):
+        losses, heals = [(0, 6.0, 7), (1, 6.5, 8)], [(0, 7.0, 9)]
+        case = self.case(Left({}, disks=self.disks()), losses, heals)
+        self.assertTrue(case.fault().endswith("and none has it: the store lost it"), case.fault())
+        later = self.case(Left({}, disks=self.disks()), [(0, 6.0, 7), (1, 8.0, 11)], heals)
+        self.assertTrue(
+            later.fault().endswith("`whole` was wrong, or the store lost it"), later.fault()
+        )
+
+    def test_a_process_lacks_it_and_read_has_it(self):
+        left = Left({KEY: VALUE}, {0: {KEY: VALUE}, 2: {KEY: None}})
+        self.assertEqual(
+            self.case(left).fault(),
+            "k2 lacks it by `check`, and k0 and `read` has it: the store lost it there,"
+            " or `check` is wrong",
+        )
+        case = self.case(left, losses=[(2, 6.0, 7)], heals=[(2, 7.0, 9)])
+        self.assertTrue(
+            case.fault().endswith(
+                "k2 was healed by entry 9: `whole` was wrong, or the store lost it"
+            )
+        )
+
+    def test_stale(self):
+        late = Operation(1, "read", KEY, None, 5_300_000_000, 5_400_000_000, "ok", node=1)
+        left = Left({KEY: VALUE})
+        self.assertEqual(self.case(left, reads=[late]).fault(), "k1 lacked it after 0.300 s")
+        fault = "k1 lacked it after 0.300 s, though the hooks promise fresh"
+        self.assertEqual(self.case(left, reads=[late], is_fresh=True).fault(), fault)
+
+    def test_orders_since_it_was_sent_are_told(self):
+        orders = [
+            {"entry": 4, "does": "Reboot", "beyond": False, "t": 4.0, "targets": [0]},
+            {"entry": 5, "does": "Reboot", "beyond": False, "t": 4.95, "targets": [0, 1]},
+            {"entry": 8, "does": None, "beyond": False, "t": 6.0, "targets": [0]},
+            {"entry": 9, "does": "Clog", "beyond": False, "t": 7.0, "targets": [3, 4]},
+        ]
+        case = self.case(Left({}, disks=self.disks()), orders=orders, able=(0, 2, 3))
+        struck = [(it["entry"], it["processes"]) for it in case.line()["struck"]]
+        self.assertEqual(struck, [(5, ["k0"]), (9, ["k3"])])
