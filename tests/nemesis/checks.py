@@ -3,7 +3,19 @@
 import re
 
 from lab import Case, Ran
-from toy import Call, Crashes, Denies, Elsewhere, Encoded, Forgetful, Idle, Mode, Partial, Toy
+from toy import (
+    Call,
+    Crashes,
+    Denies,
+    Elsewhere,
+    Encoded,
+    Forgetful,
+    Idle,
+    Mode,
+    Partial,
+    Toy,
+    Twice,
+)
 from toy import ends, hangs, now
 
 BARE = "start ready whole write read"
@@ -153,6 +165,12 @@ class Checks(Case):
             r" `read` is wrong"
         )
         self.checked(Toy(0, Partial(5), listed=READERS), text)
+
+    def test_a_read_that_tells_two_values(self):
+        other = "fedcba9876543210"
+        text = rf"`read` told r/\d+ twice, as [0-9a-f]+ and as {other}: `read` is"
+        self.checked(Toy(0, Twice(50, other)), text)
+        self.checked(Toy(0, Twice(1)), status=0)
 
     def test_a_check_that_lies(self):
         text = (

@@ -4,7 +4,7 @@ import asyncio
 import re
 
 from lab import Case, Ran
-from toy import Call, Toy, ends, hangs, throws
+from toy import Call, SaysMore, Toy, ends, hangs, throws
 
 STARTS = "start whole write read"
 
@@ -72,6 +72,47 @@ class Hooks(Case):
     def test_write_prints_no_number(self):
         self.wrong(self.hooked(write=self.prints("ok -1")), "write printed 'ok -1'")
 
+    def test_write_answers_once_too_often(self):
+        """All later answers would be to the question before."""
+        toy = Toy()
+
+        async def early(call: Call) -> int:
+            call.print("ok 1")
+            return await toy.write(call)
+
+        toy.own["write"] = early
+        self.wrong(toy, ", and nothing was asked\n", "--seconds", 20)
+        for every in (1, 7, 50):
+            toy = Toy(0, SaysMore(every))
+            self.wrong(toy, "write printed 'ok 1\\n', and nothing was asked\n", "--seconds", 20)
+
+    def test_check_answers_once_too_often(self):
+        toy = Toy(listed=f"{STARTS} ready check")
+
+        async def twice(call: Call) -> int:
+            async for line in call.lines():
+                number, key = line.split()
+                told = await toy.get(int(number), key)
+                call.print(told)
+                call.print(told)
+            return 0
+
+        toy.own["check"] = twice
+        it = self.wrong(toy, ", and nothing was asked\n", "--seconds", 20)
+        self.assertIn("check printed '", it.told)
+
+    def test_what_write_said_is_told_where_nothing_is_acknowledged(self):
+        async def dies(call: Call) -> int:
+            await call.input.readline()
+            await asyncio.sleep(0.4)
+            return 7
+
+        for write, error in ((self.prints("no"), "no"), (hangs, "hung"), (dies, "ended")):
+            words = (*self.given(), "--seconds", 8)
+            it = self.wrong(self.hooked(write=write), "no record was acknowledged", *words)
+            why = rf"(\d+) writes weren't acknowledged \(\1 {error}\)"
+            self.assertRegex(it.told, f"so the run says nothing: {why}")
+
     def test_write_prints_without_end(self):
         message = "write printed 'a line that does not end'"
         self.wrong(self.hooked(write=self.prints("x" * (1 << 17))), message)
@@ -95,8 +136,8 @@ class Hooks(Case):
 
         toy.own["write"] = write
         it = self.ran("--seconds", 6, "--kinds", "1,0,0,0,0", toy=toy, status=0)
-        self.assertGreater(len(it.history("write", "ok")), 100)
-        self.assertGreater(len(it.history("write", "info")), 40)
+        self.assertGreater(len(it.operations("write", "ok")), 100)
+        self.assertGreater(len(it.operations("write", "info")), 40)
 
     def test_whole_fails(self):
         given = self.given((0.5, "p1", "RebootAndDelete"))

@@ -25,6 +25,7 @@ for place in (ROOT / "tools", ROOT / "bindings/python/src"):
         sys.path.append(str(place))
 
 import clock  # noqa: E402
+import histories  # noqa: E402
 from nemesis import main  # noqa: E402
 from toy import Toy  # noqa: E402
 
@@ -54,8 +55,15 @@ class Ran:
     def orders(self) -> list[Any]:
         return self.events("order")
 
-    def history(self, f: str, kind: str) -> list[Any]:
-        return [it for it in self.lines("history.jsonl") if (it["f"], it["type"]) == (f, kind)]
+    def operations(self, f: str, kind: str) -> list[Any]:
+        """The lines of writes or reads that begin or end in some way."""
+        lines = (it for it in self.lines("history.jsonl") if "process" in it)
+        return [it for it in lines if (it["f"], it["type"]) == (f, kind)]
+
+    def is_history(self) -> str | None:
+        """What is wrong with the history, if anything."""
+        texts = (self.out / "history.jsonl").read_text().splitlines()
+        return histories.fault(texts, 3, len(self.audit()))
 
     def audit(self) -> list[Any]:
         return [json.loads(it) for it in (self.out / "audit").read_text().splitlines()[1:]]
@@ -108,6 +116,8 @@ class Case(unittest.TestCase):
         kept = ["--keep"] if keep else []
         it = ran(toy, self.room / str(self.runs), *words, *kept, **more)
         self.assertEqual(it.status, status, it.told)
+        if (it.out / "audit").exists():
+            self.assertIsNone(it.is_history())
         return it
 
     def given(self, *orders: tuple[float, str, str]) -> tuple[str, Path]:

@@ -15,7 +15,7 @@ from nemesis.evidence import Case as Evidence
 from nemesis.history import Operation
 from nemesis.verdicts import Left, Verdict, judged, wrong
 from toy import Call, Denies, Drops, DropsWhileEmpty, Forgetful, Hole, Invents, Lags, Old
-from toy import Partial, Quorum, Refuses, SaysMore, Shy, Toy, Twice, Unsynced, Wrong, ends, is_nth
+from toy import Partial, Quorum, Refuses, Shy, Toy, Twice, Unsynced, Wrong, ends, is_nth
 
 READERS = "start ready whole write read check salvage"
 KEY, VALUE = "r/000000001", "a"
@@ -31,7 +31,7 @@ class Stores(Case):
     ) -> tuple[Ran, list[dict[str, object]]]:
         """A run of a store, and its cases; the counts that aren't given have to be 0."""
         it = self.ran(*self.CALM, *words, toy=toy, status=status)
-        self.assertGreater(it.acked, 50)
+        self.assertGreater(it.acked, 30)
         if counts:
             none = dict.fromkeys(("kept", "lost", "stale", "unreadable", "wrong"), 0)
             self.assertEqual(it.counts, none | counts)
@@ -48,7 +48,7 @@ class Stores(Case):
         self.assertEqual(it.counts["kept"], len(toy.acked))
         self.assertEqual(sum(it.counts.values()), len(toy.acked))
         self.assertEqual(cases, [])
-        reads = it.history("read", "ok")
+        reads = it.operations("read", "ok")
         self.assertEqual({line["node"] for line in reads}, {None, 0, 1, 2})
         for node in (0, 1, 2):  # each was asked for each record at the end
             told = {tuple(line["value"]) for line in reads if line["node"] == node}
@@ -58,20 +58,9 @@ class Stores(Case):
         toy = Toy(0, Refuses(3), listed=READERS)
         it, cases = self.judged(toy, 0, *self.given())
         self.assertEqual(it.counts["kept"], len(toy.acked))
-        refused = [line for line in it.history("write", "info") if line.get("error") == "no"]
+        refused = [line for line in it.operations("write", "info") if line.get("error") == "no"]
         self.assertGreater(len(refused), 10)
         self.assertEqual(cases, [])
-
-    def test_an_acknowledgement_too_many_is_one_of_a_write_that_was_not_done(self):
-        """The tool takes it for the answer to the next write, which wasn't read yet; the store has
-        done that too in the end, but for the last of each writer."""
-        toy = Toy(0, SaysMore(5), listed=READERS)
-        it, cases = self.judged(toy, 1, *self.given())
-        disks = [toy.disk(number) for number in range(3)]
-        acked = {line["value"][0] for line in it.history("write", "ok")}
-        lost = {key for key in acked if not any(key in disk for disk in disks)}
-        self.assertTrue(lost)
-        self.assertEqual({case["key"] for case in cases if case["verdict"] == "lost"}, lost)
 
     def test_stale(self):
         listed = f"{READERS} fresh"
@@ -120,7 +109,9 @@ class Stores(Case):
         """Its disk has all."""
         toy = Toy(0, Old(2, 1.5), listed=READERS)
         it, cases = self.judged(toy, 1, *self.given(), "--seconds", 3)
-        late = {line["value"][0] for line in it.history("read", "ok") if line["value"][1] is None}
+        late = {
+            line["value"][0] for line in it.operations("read", "ok") if line["value"][1] is None
+        }
         self.assertEqual({case["key"] for case in cases}, late & toy.acked.keys())
         self.assertTrue(cases)
         for case in cases:
@@ -223,7 +214,7 @@ class Stores(Case):
         toy = Toy(0, Wrong(9), listed=READERS)
         it, cases = self.judged(toy, 8, *self.given())
         found = {case["key"] for case in cases}
-        sent = {line["value"][0] for line in it.history("write", "invoke")}
+        sent = {line["value"][0] for line in it.operations("write", "invoke")}
         self.assertLessEqual({*self.nth(toy, 9)}, found)
         # the last of them may have been sent, and not acknowledged in time
         self.assertLessEqual(found, {key for key in sent if is_nth(key, 9)})
@@ -273,7 +264,7 @@ class Stores(Case):
         self.assertRegex(it.told, f"lost: {lost[0]['key']}( and \\d+ more)?, {when}")
 
     def tried(self, seed: int) -> Ran:
-        words = ("--seed", seed, "--seconds", 8, "--quiet")
+        words = ("--seed", seed, "--seconds", 8, "--pauses", 0.2, "--quiet")
         return ran(Toy(seed, Unsynced(), pace=0.02), self.room / str(seed), *words)
 
     def test_emptied_servers_that_are_never_filled(self):

@@ -76,11 +76,23 @@ class Words(Case):
                 self.assertEqual([*own.iterdir()], [])
 
     def test_a_folder_that_has_something_is_left_alone(self):
-        mine = self.written("mine", "kept")
+        mine = self.written("audit", "kept")
         status, told, said = self.told(CLUSTER, HOOKS, "--out", self.room)
         self.assertEqual((status, told), (2, ""))
         self.assertIn("is not empty", said)
         self.assertEqual(mine.read_text(), "kept")
+
+    def test_an_audit_that_comes_into_the_folder_meanwhile_is_left(self):
+        text = '{"audit":2}\n{"act":{"tick":{"ticks":1}},"at":0,"by":0,"reply":{"time":1}}\n'
+        said, out = io.StringIO(), self.room / "out"
+        words = main.parsed([str(CLUSTER), str(HOOKS), "--out", str(out)])
+        out.mkdir()
+        (out / "audit").write_text(text)
+        with redirect_stderr(said):
+            self.assertEqual(main.ended(words, Toy(), clock.run), 4)
+        self.assertIn(f"{out}/audit is the audit of another guard", said.getvalue())
+        self.assertEqual([it.name for it in out.iterdir()], ["audit"])
+        self.assertEqual((out / "audit").read_text(), text)
 
     def test_what_is_no_history_is_refused(self):
         right = '{"index":0,"time":1,"process":0,"type":"invoke","f":"write","value":["a","b"]}'
