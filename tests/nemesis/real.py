@@ -23,6 +23,7 @@ import unittest.mock
 import uuid
 from pathlib import Path
 
+import histories
 import keeper
 from nemesis import store
 
@@ -113,7 +114,16 @@ class Case(unittest.TestCase):
         self.assertEqual(running.returncode, status, told + said)
         self.assertEqual(self.left(), [])
         self.assertEqual(list(self.room.joinpath("cwd").iterdir()), [])
+        if (self.out / "audit").exists():
+            texts = (self.out / "history.jsonl").read_text().splitlines()
+            self.assertIsNone(histories.fault(texts, 3, len(self.audit())))
         return told + said
+
+    def operations(self, f, kind):
+        """The lines of writes or reads that begin or end in some way."""
+        lines = map(json.loads, (self.out / "history.jsonl").open())
+        lines = [it for it in lines if "process" in it]
+        return [it for it in lines if (it["f"], it["type"]) == (f, kind)]
 
     def events_file(self, *orders):
         """A file of events with these orders: when, which process, and the kind."""
@@ -186,8 +196,7 @@ class Hooks(Case):
         heal = self.events("heal")[0]
         self.assertEqual(heal["process"], 0)
         self.assertIn((self.out / "primary").read_text(), ("0", "1", "2"))
-        lines = map(json.loads, (self.out / "history.jsonl").open())
-        times = [it["time"] / 1e9 for it in lines if (it["f"], it["type"]) == ("write", "ok")]
+        times = [it["time"] / 1e9 for it in self.operations("write", "ok")]
         self.assertTrue(any(time > heal["t"] for time in times))
 
     def test_an_executable_that_cannot_be_run(self):
