@@ -1,4 +1,4 @@
-"""Looks whether lines are a history, by the format of docs/NEMESIS.md and by nothing of the tool's."""
+"""Looks whether lines are a history, by the format of docs/NEMESIS.md, with nothing of the tool."""
 
 import json
 from collections.abc import Iterable

@@ -8,10 +8,10 @@ What a member has stands in the log of its folder, as `KEY VALUE` lines, so the 
 there, and in `Toy.acked` what was acknowledged. Everything takes some time of the loop, drawn from
 the seed; the same seed gives the same run.
 
-**A new mode** is a subclass of `Mode` that overrides the points at which it differs. Each point says
-when it is asked. Where none fits, add one: a method of `Mode` that does nothing, and the one place
-of `Toy` or `Member` that asks all modes. A hook that doesn't fit is a coroutine of its own, given by
-`hooks={"ready": hangs}`: it takes a `Call` and answers the status.
+**A new mode** is a subclass of `Mode` that overrides the points at which it differs. Each point
+says when it is asked. Where none fits, add one: a method of `Mode` that does nothing, and the one
+place of `Toy` or `Member` that asks all modes. A hook that doesn't fit is a coroutine of its own,
+given by `hooks={"ready": hangs}`: it takes a `Call` and answers the status.
 """
 
 from __future__ import annotations

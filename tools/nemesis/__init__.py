@@ -18,7 +18,7 @@ def say(text: str) -> None:
 
 
 def clock() -> float:
-    """Seconds by the loop, which wakes by them who sleeps; a test has a loop whose time is its own."""
+    """Seconds by the loop, by which it wakes whoever sleeps; the loop of a test has its own."""
     return asyncio.get_running_loop().time()
 
 

@@ -200,7 +200,7 @@ def ended(
     machine: Machine = Machine(),
     run: Callable[[Coroutine[Any, Any, int]], int] = asyncio.run,
 ) -> int:
-    """How the tool ends, on a machine, by a loop that runs; what ends it before its time is told."""
+    """How the tool ends, on a machine and in a loop; what ends it before its time is told."""
     try:
         words.out = Path(words.out or tempfile.mkdtemp(prefix="faultyard-nemesis-")).resolve()
         words.out.mkdir(parents=True, exist_ok=True)
