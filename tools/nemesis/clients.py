@@ -17,7 +17,7 @@ ENDLESS = ["a", "line", "that", "does", "not", "end"]
 AGAIN = 0.1  # seconds until another client runs where one ended
 REFUSED = 0.05  # seconds until a writer goes on that was told no
 READ_PAUSE = 0.01  # seconds between two reads of a reader
-LAGS = 0.5  # seconds until a process is asked again at the end for what it lacks
+LAGS = 0.5  # seconds until a process is asked again for what it lacks at the end; they double
 MINUTE = 60_000_000_000  # nanoseconds after which it is asked for that for the last time
 LISTENS = 100  # after each so manyth answer nothing is asked for a moment
 MOMENT, SECOND = 0.005, 1.0  # seconds that this takes, at least and at most
@@ -151,7 +151,7 @@ class Clients:
         It may lag. So what it lacks is asked for again, and None is told only of a record that it
         still lacks a minute after it was first asked for that.
         """
-        client, first = self.history.client(), dict[str, int]()
+        client, first, pause = self.history.client(), dict[str, int](), LAGS
         found, lacks = dict[str, str | None](), keys
         while lacks:
             asked, again = await self._check_each(client, number, lacks), []
@@ -168,7 +168,8 @@ class Clients:
                 if not is_last and found.get(key, "") is None:
                     again.append(key)
             if lacks := again:
-                await asyncio.sleep(LAGS)
+                await asyncio.sleep(pause)
+                pause *= 2
         return found
 
     async def _check_each(
