@@ -1,13 +1,13 @@
 -- zones that may stand in a row make an order of the operations
-use Rattle.std.proofs.Common.{suc, zero, inl, inr, ◌⊎◌, ◌≡◌, ◌≢◌, ℕ, ◌<◌, ◌≤◌, Bool, true, false, cond, ◌==◌, List, [], ◌∷◌, ◌++◌, Some, None, Option, refl, sym, ap, subst, ◌∙◌, arith, eq-eqb, eqb-true}
+use Rattle.std.proofs.Common.{inl, inr, ◌⊎◌, ◌≡◌, ◌≢◌, ℕ, ◌<◌, ◌≤◌, Bool, true, false, cond, ◌==◌, List, [], ◌∷◌, ◌++◌, Some, None, Option, refl, sym, ap, subst, ◌∙◌, arith, eq-eqb, eqb-true}
 use Rattle.std.specs.List.{Contains, AllPairs, filter}
 use Rattle.std.proofs.lemmas.List.Elements.{Contains-append_cases, Contains-append_left, Contains-append_right}
 use Rattle.fy_registers.specs.declared.operation.Act.{Act}
 use Rattle.fy_registers.specs.declared.operation.Act.TheVariants.{Write, Read}
 use Rattle.fy_registers.specs.declared.operation.Operation.{Operation}
 use Rattle.fy_registers.specs.declared.zone.Zone.{Zone}
-use Rattle.fy_registers.specs.Linear.{value_in, value_of, HasEnded, IsBefore, held_after, IsAnswered, AreAnswered, IsLinearization, IsLinearizable, IsWrittenOnce, IsHistory}
-use Rattle.fy_registers.specs.Evidence.{IsReadOf, IsWriteOf}
+use Rattle.fy_registers.specs.Linear.{value_in, value_of, HasEnded, IsBefore, held_after, IsAnswered, AreAnswered, IsLinearizable, IsWrittenOnce, IsHistory}
+use Rattle.fy_registers.specs.Evidence.{IsReadOf}
 use Rattle.fy_registers.specs.Zones.{IsZone, AreZones, MayPrecede}
 use Rattle.fy_registers.proofs.Lists.{contains_here, contains_there, contains_cases, contains_none, pairs_head, pairs_tail, pairs_cons, pairs_none, pairs_append, pairs_filter, pairs_weaker, pairs_apart, from_filter, into_filter}
 
@@ -102,23 +102,26 @@ module _ (h : List Operation) (history : IsHistory h) (written_once : IsWrittenO
       (pairs_filter (is_read x) (λ one later. one.began < later.began) h history.in_order)
     where
       go : (a b : Operation) → IsReadOf h x b → a.began < b.began → MayStand a b
-      go a b read less =
-          ((λ e. let same_place : a.began ≡ b.began = ap (λ (o : Operation). o.began) e in omega arith),
-          (λ (end, ended, before). let late = history.ends b read.within end ended in omega arith))
+      go a b read less = (
+        (λ e. let same_place : a.began ≡ b.began = ap (λ (o : Operation). o.began) e in omega arith),
+        (λ (end, ended, before). let late = history.ends b read.within end ended in omega arith),
+      )
 
   cluster_in_row : (z : Zone) → IsZone h z → AllPairs MayStand (cluster z)
   cluster_in_row z zone = pairs_cons MayStand z.write (reads_of (Some z.value))
       (λ o among. go o (reads_are (Some z.value) o among)) (reads_in_row (Some z.value))
     where
       go : (o : Operation) → IsReadOf h (Some z.value) o → MayStand z.write o
-      go o read =
-          ((λ e. let acts : Write z.value ≡ Read (Some z.value) = sym zone.write.act ∙ ap (λ (q : Operation). q.act) e ∙ read.act in cc),
-          (λ (end, ended, before). let late = zone.least o read.within (ap value_in read.act) end ended in let first = zone.written in omega arith))
+      go o read = (
+        (λ e. let acts : Write z.value ≡ Read (Some z.value) = sym zone.write.act ∙ ap (λ (q : Operation). q.act) e ∙ read.act in cc),
+        (λ (end, ended, before). let late = zone.least o read.within (ap value_in read.act) end ended in let first = zone.written in omega arith),
+      )
 
   across : (y z : Zone) → y.value ≢ z.value → MayPrecede y z → (a b : Operation) → Member y a → Member z b → MayStand a b
-  across y z apart precedes a b a_of b_of =
-      ((λ e. let values : Some y.value ≡ Some z.value = sym a_of.value ∙ ap value_of e ∙ b_of.value in apart (let equal : y.value ≡ z.value = cc in equal)),
-      (λ (end, ended, before). let late = b_of.ended end ended in let early = a_of.began in omega arith))
+  across y z apart precedes a b a_of b_of = (
+    (λ e. let values : Some y.value ≡ Some z.value = sym a_of.value ∙ ap value_of e ∙ b_of.value in apart (let equal : y.value ≡ z.value = cc in equal)),
+    (λ (end, ended, before). let late = b_of.ended end ended in let early = a_of.began in omega arith),
+  )
 
   of_clusters : (zs : List Zone) (o : Operation) → Contains (clusters zs) o → (z : Zone) × Contains zs z × Contains (cluster z) o
   of_clusters [] o among = absurd (contains_none o among)
@@ -205,15 +208,19 @@ module _ (h : List Operation) (history : IsHistory h) (written_once : IsWrittenO
         (λ a b a_in b_in. let its = of_clusters zs b b_in in go a b its.0 (reads_are None a a_in) its.1 (members its.0 (zones.each its.0 its.1) b its.2))
       where
         go : (a b : Operation) (z : Zone) → IsReadOf h None a → Contains zs z → Member z b → MayStand a b
-        go a b z read among member =
-            ((λ e. let values : None ≡ Some z.value = sym (ap value_in read.act) ∙ ap value_of e ∙ member.value in cc),
-            (λ (end, ended, before). let late = member.ended end ended in let early = nothing a read z among in omega arith))
+        go a b z read among member = (
+          (λ e. let values : None ≡ Some z.value = sym (ap value_in read.act) ∙ ap value_of e ∙ member.value in cc),
+          (λ (end, ended, before). let late = member.ended end ended in let early = nothing a read z among in omega arith),
+        )
 
     pub linearizable : IsLinearizable h
-    linearizable = (order, record {
-      taken = taken;
-      complete = complete;
-      once = pairs_weaker MayStand (λ one later. one ≢ later) order (λ a b a_in b_in may. may.0) may_stand;
-      in_time = pairs_weaker MayStand (λ one later. IsBefore later one → ⊥) order (λ a b a_in b_in may. may.1) may_stand;
-      answered = reads_answered None (clusters zs) (clusters_answered None zs zones.each) h;
-    })
+    linearizable = (
+      order,
+      record {
+        taken = taken;
+        complete = complete;
+        once = pairs_weaker MayStand (λ one later. one ≢ later) order (λ a b a_in b_in may. may.0) may_stand;
+        in_time = pairs_weaker MayStand (λ one later. IsBefore later one → ⊥) order (λ a b a_in b_in may. may.1) may_stand;
+        answered = reads_answered None (clusters zs) (clusters_answered None zs zones.each) h;
+      },
+    )

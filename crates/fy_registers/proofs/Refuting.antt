@@ -1,5 +1,5 @@
 -- where evidence is shown there is no order
-use Rattle.std.proofs.Common.{inl, inr, ◌⊎◌, ◌≡◌, ◌≢◌, ℕ, ◌<◌, ◌≤◌, List, [], ◌∷◌, Some, None, Option, refl, sym, ap, subst, ◌∙◌, arith}
+use Rattle.std.proofs.Common.{inl, inr, ◌⊎◌, ◌≡◌, ◌≢◌, ℕ, List, [], ◌∷◌, Some, None, Option, refl, sym, ap, subst, ◌∙◌}
 use Rattle.std.specs.List.{Contains, AllPairs}
 use Rattle.fy_registers.specs.declared.operation.Act.{Act}
 use Rattle.fy_registers.specs.declared.operation.Act.TheVariants.{Write, Read}
@@ -7,7 +7,7 @@ use Rattle.fy_registers.specs.declared.operation.Operation.{Operation}
 use Rattle.fy_registers.specs.declared.evidence.Span.{Span}
 use Rattle.fy_registers.specs.declared.evidence.Evidence.{Evidence}
 use Rattle.fy_registers.specs.declared.evidence.Evidence.TheVariants.{Unwritten, BeforeWrite, Nothing, Conflict}
-use Rattle.fy_registers.specs.Linear.{value_in, value_of, HasEnded, IsBefore, held_after, IsAnswered, AreAnswered, IsLinearization, IsLinearizable, IsWrittenOnce}
+use Rattle.fy_registers.specs.Linear.{value_in, value_of, HasEnded, IsBefore, held_after, IsAnswered, AreAnswered, IsLinearization, IsWrittenOnce}
 use Rattle.fy_registers.specs.Evidence.{IsReadOf, IsWriteOf, IsSpanOf, Shows, EvidenceRefutes}
 use Rattle.fy_registers.proofs.Lists.{contains_here, contains_there, contains_cases, contains_none, pairs_head, pairs_tail}
 

@@ -5,6 +5,8 @@ use Rattle.fy_registers.specs.declared.operation.Operation.{Operation}
 use Rattle.fy_registers.specs.declared.evidence.Span.{Span}
 use Rattle.fy_registers.specs.declared.evidence.Evidence.{Evidence}
 use Rattle.fy_registers.specs.declared.evidence.Evidence.TheVariants.{Unwritten, BeforeWrite, Nothing, Conflict}
+use Rattle.fy_registers.specs.declared.evidence.Judgement.{Judgement}
+use Rattle.fy_registers.specs.declared.evidence.Judgement.TheVariants.{Linearizable, Not, Twice}
 use Rattle.fy_registers.specs.Linear.{value_of, HasEnded, IsBefore, IsLinearizable, IsWrittenOnce}
 
 -- a read of the history that answered so
@@ -45,3 +47,14 @@ Shows h (Conflict one other) =
 abbrev pub EvidenceRefutes : Type 0
 EvidenceRefutes = (h : List Operation) (evidence : Evidence) → IsWrittenOnce h →
     Shows h evidence → IsLinearizable h → ⊥
+
+-- two operations write one value
+abbrev pub IsTwice : List Operation → Operation → Operation → Type 0
+IsTwice h one other = (v : ℕ) × IsWriteOf h v one × IsWriteOf h v other × (one ≢ other)
+
+-- a judgement holds of a history: there is an order; or there is none, and this shows it; or two
+-- operations write one value
+abbrev pub Judges : List Operation → Judgement → Type 0
+Judges h Linearizable = IsWrittenOnce h × IsLinearizable h
+Judges h (Not evidence) = IsWrittenOnce h × Shows h evidence × (IsLinearizable h → ⊥)
+Judges h (Twice one other) = IsTwice h one other

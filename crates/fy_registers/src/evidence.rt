@@ -2,7 +2,7 @@
 
 use crate::operation::Operation;
 
-/// Two operations that wrote or read one value.
+/// Two operations that wrote or answered one value.
 #[derive(Clone, Copy, Debug, PartialEq, Eq)]
 pub struct Span {
     /// The one that ended first.
@@ -22,4 +22,13 @@ pub enum Evidence {
     Nothing { ended: Operation, read: Operation },
     /// Of each of two values an operation ended before one of the other value began.
     Conflict { one: Span, other: Span },
+}
+
+/// What is known of a history.
+#[derive(Clone, Copy, Debug, PartialEq, Eq)]
+pub enum Judgement {
+    Linearizable,
+    Not(Evidence),
+    /// Two operations write one value, and the history isn't judged.
+    Twice { one: Operation, other: Operation },
 }

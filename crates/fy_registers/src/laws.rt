@@ -5,5 +5,4 @@ ghost use Rattle.fy_registers.specs.Evidence.{EvidenceRefutes};
 #[tactic(auto, using(crate::proofs::Refuting::evidence_refutes))]
 pub fn evidence_refutes()
     ensures { EvidenceRefutes }
-{
-}
+{}

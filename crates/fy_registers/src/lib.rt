@@ -2,9 +2,11 @@
 #![tactic(auto)]
 
 mod evidence;
+mod judging;
 pub mod laws;
 mod operation;
 mod zone;
 
-pub use evidence::{Evidence, Span};
+pub use evidence::{Evidence, Judgement, Span};
+pub use judging::judge;
 pub use operation::{Act, Operation};

@@ -1,5 +1,8 @@
 //! The operations of a register.
 
+ghost use Rattle.std.specs.Prelude.{◌≡◌, IsTrue, ◌↔◌};
+ghost use Rattle.fy_registers.specs.declared.operation.Act.TheVariants.{Read};
+
 /// What an operation does.
 #[derive(Clone, Copy, Debug, PartialEq, Eq)]
 pub enum Act {
@@ -17,4 +20,25 @@ pub struct Operation {
     pub began: u32,
     /// The place at which it ended. Where there is none, it may have been done or not.
     pub ended: Option<u32>,
+}
+
+impl Operation {
+    ghost use Rattle.fy_registers.specs.Linear.{value_of, HasEnded};
+
+    /// The value that it wrote or answered.
+    pub fn value(&self) -> Option<u32>
+        ensures { result ≡ value_of self.now }
+    {
+        match self.act {
+            Act::Write(value) => Some(value),
+            Act::Read(answer) => answer,
+        }
+    }
+
+    /// Whether it is a read that ended and found nothing.
+    pub(crate) fn found_nothing(&self) -> bool
+        ensures { IsTrue result ↔ ((self.now.act ≡ Read None) × HasEnded self.now) }
+    {
+        matches!((self.act, self.ended), (Act::Read(None), Some(_)))
+    }
 }
