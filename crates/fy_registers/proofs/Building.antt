@@ -10,6 +10,7 @@ use Rattle.fy_registers.specs.Linear.{value_in, value_of, HasEnded, IsBefore, he
 use Rattle.fy_registers.specs.Evidence.{IsReadOf}
 use Rattle.fy_registers.specs.Zones.{IsZone, AreZones, MayPrecede}
 use Rattle.fy_registers.proofs.Lists.{contains_here, contains_there, contains_cases, contains_none, pairs_head, pairs_tail, pairs_cons, pairs_none, pairs_append, pairs_filter, pairs_weaker, pairs_apart, from_filter, into_filter}
+use Rattle.fy_registers.proofs.Histories.{ends_late}
 
 -- ---- the test of a read that ended and answered so
 
@@ -104,7 +105,7 @@ module _ (h : List Operation) (history : IsHistory h) (written_once : IsWrittenO
       go : (a b : Operation) → IsReadOf h x b → a.began < b.began → MayStand a b
       go a b read less = (
         (λ e. let same_place : a.began ≡ b.began = ap (λ (o : Operation). o.began) e in omega arith),
-        (λ (end, ended, before). let late = history.ends b read.within end ended in omega arith),
+        (λ (end, ended, before). let late = ends_late h history b read.within end ended in omega arith),
       )
 
   cluster_in_row : (z : Zone) → IsZone h z → AllPairs MayStand (cluster z)

@@ -1,7 +1,8 @@
 pub mod Building
-pub mod Rows
+pub mod Histories
 pub mod Lists
 pub mod Refuting
 pub mod Repeating
+pub mod Rows
 pub mod Seeing
 pub mod Zoning

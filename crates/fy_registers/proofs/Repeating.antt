@@ -11,6 +11,7 @@ use Rattle.fy_registers.specs.Linear.{value_in, IsHistory, IsWrittenOnce}
 use Rattle.fy_registers.specs.Evidence.{IsTwice}
 use Rattle.fy_registers.specs.Zones.{AreSeen}
 use Rattle.fy_registers.proofs.Lists.{contains_none}
+use Rattle.fy_registers.proofs.Histories.{value_small}
 
 -- each write of the first operations is the one that the table has
 abbrev pub AreAlone : List Operation → ℕ → List Seen → Type 0
@@ -42,7 +43,7 @@ alone_ends h table d alone one other v one_in other_in one_writes other_writes =
 module _ (h : List Operation) (history : IsHistory h) (table : List Seen) (seen : AreSeen h table) (i : ℕ) (d0 : Operation) (below : i < length h) (v : ℕ) (writes : (get_or h i d0).act ≡ Write v) where
   pub value_below : v < length table
   value_below =
-      let less = history.values (get_or h i d0) (Contains-get_or h i d0 below) v (ap value_in writes) in
+      let less = value_small h history (get_or h i d0) (Contains-get_or h i d0 below) v (ap value_in writes) in
       let count = seen.count in omega arith
 
   pub twice_found : (e : Seen) (w : Operation) → (get_or table v e).write ≡ Some w → (w ≡ get_or h i d0 → ⊥) → IsTwice h (get_or h i d0) w

@@ -14,6 +14,7 @@ use Rattle.fy_registers.specs.Linear.{value_in, value_of, HasEnded, IsHistory}
 use Rattle.fy_registers.specs.Evidence.{IsWriteOf}
 use Rattle.fy_registers.specs.Zones.{next_write, next_ended, AreEnded, IsSeen, AreSeen}
 use Rattle.fy_registers.proofs.Lists.{contains_none}
+use Rattle.fy_registers.proofs.Histories.{value_small}
 
 pub nothing_seen : (v : ℕ) → IsSeen [] v (record { write = None; ended = None })
 nothing_seen v = record {
@@ -222,7 +223,7 @@ module _ (h : List Operation) (history : IsHistory h) (i : ℕ) (d0 : Operation)
       → (ended : Option Ended) → ended ≡ next_ended s.ended (get_or h i d0) (get_or h i d0).ended
       → SeenSoFar h (i + 1) (set table v (record { write = write; ended = ended }))
   seen_step v value s is write write_is ended ended_is =
-      let less = history.values (get_or h i d0) (Contains-get_or h i d0 below) v value in
+      let less = value_small h history (get_or h i d0) (Contains-get_or h i d0 below) v value in
       let count = so_far.0 in
       let inside : v < length table = omega arith in
       table_more h history i (get_or h i d0) below (λ d. get_or_default h i d d0 below) table so_far v inside value s (record { write = write; ended = ended })

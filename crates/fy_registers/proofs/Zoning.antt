@@ -18,6 +18,7 @@ use Rattle.fy_registers.specs.Evidence.{IsReadOf, IsWriteOf, Shows}
 use Rattle.fy_registers.specs.Zones.{AreEnded, IsSeen, AreSeen, IsZone, IsZoneOf, IsNoZoneOf, AreZones}
 use Rattle.fy_registers.proofs.Lists.{contains_none, contains_here, from_filter}
 use Rattle.fy_registers.proofs.Refuting.{evidence_refutes}
+use Rattle.fy_registers.proofs.Histories.{ends_late, value_small}
 
 module _ (h : List Operation) (v : ℕ) (s : Seen) (seen : IsSeen h v s) where
   -- what is seen makes a zone
@@ -88,7 +89,7 @@ module _ (h : List Operation) (v : ℕ) (s : Seen) (seen : IsSeen h v s) where
       never first =
           let same : e.first ≡ write = once e.first write v first.within its_write.within first.act its_write.act in
           let began : e.first.began ≡ write.began = ap (λ (o : Operation). o.began) same in
-          let low = history.ends e.first are.first e.end are.first_end in omega arith
+          let low = ends_late h history e.first are.first e.end are.first_end in omega arith
   shown history once (Nothing ended read) x = absurd x
   shown history once (Conflict one other) x = absurd x
 
@@ -171,7 +172,7 @@ module _ (h : List Operation) (table : List Seen) (i : ℕ) (d0 : Seen) (below :
 pub zones_end : (h : List Operation) → IsHistory h → (table : List Seen) → AreSeen h table → (d : Seen) (zones : List Zone) → ZonesSoFar h table (length table) zones → AreZones h zones
 zones_end h history table seen d zones so_far = record {
   each = so_far.each;
-  all = λ o within done v value. all o within done v value (history.values o within v value);
+  all = λ o within done v value. all o within done v value (value_small h history o within v value);
   apart = so_far.apart;
 }
   where

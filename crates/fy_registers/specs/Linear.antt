@@ -1,5 +1,5 @@
 -- what it is for a history of one register to be linearizable
-use Rattle.std.specs.Prelude.{◌≡◌, ◌≢◌, ℕ, ◌<◌, ◌≤◌, List, [], ◌∷◌, Contains, length, Option, Some, None, AllPairs}
+use Rattle.std.specs.Prelude.{◌≡◌, ◌≢◌, ℕ, ◌<◌, ◌≤◌, List, [], ◌∷◌, Contains, length, Option, Some, None, All, AllPairs}
 use Rattle.fy_registers.specs.declared.operation.Act.{Act}
 use Rattle.fy_registers.specs.declared.operation.Act.TheVariants.{Write, Read}
 use Rattle.fy_registers.specs.declared.operation.Operation.{Operation}
@@ -55,9 +55,13 @@ abbrev pub IsWrittenOnce : List Operation → Type 0
 IsWrittenOnce h = (one other : Operation) (v : ℕ) → Contains h one → Contains h other →
     one.act ≡ Write v → other.act ≡ Write v → one ≡ other
 
+-- an operation doesn't end before it began, and its value is below a count
+pub record IsWithin (count : ℕ) (o : Operation) : Type 0 where
+  pub ends : (end : ℕ) → o.ended ≡ Some end → o.began ≤ end
+  pub below : (v : ℕ) → value_of o ≡ Some v → v < count
+
 -- operations in the order in which they began, no two at one place; none ended before it began,
 -- and each value is below their count
 pub record IsHistory (h : List Operation) : Type 0 where
   pub in_order : AllPairs (λ one later. one.began < later.began) h
-  pub ends : (o : Operation) → Contains h o → (end : ℕ) → o.ended ≡ Some end → o.began ≤ end
-  pub values : (o : Operation) → Contains h o → (v : ℕ) → value_of o ≡ Some v → v < length h
+  pub each : All (IsWithin (length h)) h

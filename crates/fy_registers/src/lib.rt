@@ -9,4 +9,4 @@ mod zone;
 
 pub use evidence::{Evidence, Judgement, Span};
 pub use judging::judge;
-pub use operation::{Act, Operation};
+pub use operation::{Act, Operation, is_history};
