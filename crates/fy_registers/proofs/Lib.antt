@@ -1,6 +1,8 @@
 pub mod Building
 pub mod Histories
+pub mod KeyParts
 pub mod Lists
+pub mod Merging
 pub mod Refuting
 pub mod Repeating
 pub mod Rows

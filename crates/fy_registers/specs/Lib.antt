@@ -1,3 +1,4 @@
 pub mod Evidence
+pub mod Keys
 pub mod Linear
 pub mod Zones

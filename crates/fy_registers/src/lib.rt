@@ -3,10 +3,12 @@
 
 mod evidence;
 mod judging;
+mod keyed;
 pub mod laws;
 mod operation;
 mod zone;
 
 pub use evidence::{Evidence, Judgement, Span};
 pub use judging::judge;
+pub use keyed::Keyed;
 pub use operation::{Act, Operation, is_history};
