@@ -1,5 +1,5 @@
 -- what a history says of an operation, and when operations are one
-use Rattle.std.proofs.Common.{suc, zero, inl, inr, ◌⊎◌, ◌≡◌, ℕ, ◌+◌, ◌<◌, ◌≤◌, Bool, true, false, nat_lt, List, length, get_or, Some, refl, sym, ap, subst, ◌∙◌, arith, All, MatchBool, ltb-true, ltb-false, lt-ltb}
+use Rattle.std.proofs.Common.{suc, zero, inl, inr, ◌⊎◌, ◌≡◌, ℕ, ◌+◌, ◌<◌, ◌≤◌, Bool, true, false, nat_lt, List, length, get_or, Some, sym, subst, arith, ltb-true, ltb-false}
 use Rattle.std.specs.List.{Contains, AllPairs, AllAdjacentBelow}
 use Rattle.std.proofs.lemmas.List.Elements.{All-contains}
 use Rattle.std.proofs.lemmas.Bool.{cases_eq}

@@ -1,10 +1,10 @@
 -- the operations of a key, and what they are answered
-use Rattle.std.proofs.Common.{suc, zero, inl, inr, ◌⊎◌, ◌≡◌, ◌≢◌, ℕ, ◌+◌, ◌<◌, ◌≤◌, ◌==◌, Bool, true, false, cond, List, [], ◌∷◌, ◌++◌, Some, None, Option, refl, sym, ap, subst, ◌∙◌, arith, eqb-true, eq-eqb, ne_eqb}
+use Rattle.std.proofs.Common.{inl, inr, ◌⊎◌, ◌≡◌, ◌≢◌, ℕ, ◌==◌, Bool, true, false, cond, List, [], ◌∷◌, None, Option, refl, sym, ap, subst, ◌∙◌, eqb-true, eq-eqb}
 use Rattle.std.specs.List.{Contains, AllPairs}
 use Rattle.fy_registers.specs.declared.operation.Operation.{Operation}
-use Rattle.fy_registers.specs.Linear.{HasEnded, IsBefore, held_after, IsAnswered, AreAnswered, IsLinearization, IsLinearizable}
+use Rattle.fy_registers.specs.Linear.{IsBefore, held_after, IsAnswered, AreAnswered, IsLinearizable}
 use Rattle.fy_registers.specs.declared.keyed.Keyed.{Keyed}
-use Rattle.fy_registers.specs.Keys.{of_key, all_held_after, AreAllAnswered, IsLinearizationOfAll, AreLinearizable}
+use Rattle.fy_registers.specs.Keys.{of_key, all_held_after, AreAllAnswered, AreLinearizable}
 use Rattle.fy_registers.proofs.Lists.{contains_here, contains_there, contains_cases, contains_none, pairs_head, pairs_tail, pairs_cons, pairs_none}
 
 -- an operation with its key
@@ -74,10 +74,13 @@ answered_from_keys held (x ∷ xs) each = (its.0, answered_from_keys (all_held_a
 
 -- ---- registers that are linearizable together are so each by itself
 pub together_each : (h : List Keyed) → AreLinearizable h → (k : ℕ) → IsLinearizable (of_key k h)
-together_each h (order, is) k = (of_key k order, record {
-  taken = λ o among. into_key k h o (is.taken (with_key k o) (from_key k order o among));
-  complete = λ o among ended. into_key k order o (is.complete (with_key k o) (from_key k h o among) ended);
-  once = pairs_of_key (λ one later. one ≢ later) (λ one later. one ≢ later) k (λ o p differ same. differ (ap (with_key k) same)) order is.once;
-  in_time = pairs_of_key (λ one later. IsBefore later.operation one.operation → ⊥) (λ one later. IsBefore later one → ⊥) k (λ o p fine. fine) order is.in_time;
-  answered = answered_of_key k (λ key. None) order is.answered;
-})
+together_each h (order, is) k = (
+  of_key k order,
+  record {
+    taken = λ o among. into_key k h o (is.taken (with_key k o) (from_key k order o among));
+    complete = λ o among ended. into_key k order o (is.complete (with_key k o) (from_key k h o among) ended);
+    once = pairs_of_key (λ one later. one ≢ later) (λ one later. one ≢ later) k (λ o p differ same. differ (ap (with_key k) same)) order is.once;
+    in_time = pairs_of_key (λ one later. IsBefore later.operation one.operation → ⊥) (λ one later. IsBefore later one → ⊥) k (λ o p fine. fine) order is.in_time;
+    answered = answered_of_key k (λ key. None) order is.answered;
+  },
+)

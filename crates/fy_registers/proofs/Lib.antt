@@ -7,4 +7,5 @@ pub mod Refuting
 pub mod Repeating
 pub mod Rows
 pub mod Seeing
+pub mod Splitting
 pub mod Zoning

@@ -1,14 +1,14 @@
 -- orders of single registers, merged into one of all
-use Rattle.std.proofs.Common.{suc, zero, inl, inr, ◌⊎◌, ◌≡◌, ◌≢◌, ℕ, ◌+◌, ◌<◌, ◌≤◌, ◌==◌, max, nat_le, nat_lt, Bool, true, false, cond, List, [], ◌∷◌, ◌++◌, Some, None, Option, refl, sym, ap, subst, ◌∙◌, arith, eqb-true, eq-eqb, ne_eqb, leb-true, leb-false, ltb-true, ltb-false, map, append-nil}
+use Rattle.std.proofs.Common.{suc, zero, inl, inr, ◌⊎◌, ◌≡◌, ◌≢◌, ℕ, ◌<◌, ◌≤◌, ◌==◌, max, nat_le, nat_lt, Bool, true, false, cond, List, [], ◌∷◌, ◌++◌, Some, None, refl, sym, ap, subst, ◌∙◌, arith, eq-eqb, ne_eqb, leb-true, leb-false, ltb-true, ltb-false, map, append-nil}
 use Rattle.std.specs.List.{Contains, AllPairs, filter}
 use Rattle.std.proofs.lemmas.Bool.{cases_eq}
-use Rattle.std.proofs.lemmas.List.Elements.{Contains-append_cases, Contains-append_left, Contains-append_right, filter-append}
+use Rattle.std.proofs.lemmas.List.Elements.{Contains-append_cases, filter-append}
 use Rattle.fy_registers.specs.declared.operation.Operation.{Operation}
-use Rattle.fy_registers.specs.Linear.{HasEnded, IsBefore, AreAnswered, IsLinearization, IsLinearizable}
+use Rattle.fy_registers.specs.Linear.{HasEnded, IsBefore, AreAnswered, IsLinearizable}
 use Rattle.fy_registers.specs.declared.keyed.Keyed.{Keyed}
-use Rattle.fy_registers.specs.Keys.{of_key, AreAllAnswered, IsLinearizationOfAll, AreLinearizable, NoneEndsEarly, EachByItself}
+use Rattle.fy_registers.specs.Keys.{of_key, AreLinearizable, NoneEndsEarly, EachByItself}
 use Rattle.fy_registers.proofs.KeyParts.{with_key, from_key, into_key, answered_from_keys, together_each}
-use Rattle.fy_registers.proofs.Lists.{contains_here, contains_there, contains_cases, contains_none, pairs_head, pairs_tail, pairs_cons, pairs_none, pairs_append, pairs_weaker, from_filter, into_filter}
+use Rattle.fy_registers.proofs.Lists.{contains_here, contains_there, contains_cases, contains_none, pairs_head, pairs_tail, pairs_cons, pairs_none, pairs_weaker, from_filter, into_filter}
 
 -- an operation with the point at which it is taken to be done
 pub record Placed : Type 0 where
@@ -324,12 +324,13 @@ by_key (x ∷ xs) each in_order lie =
 
     go : (y : Placed) → Contains xs y → (y.keyed.key ≡ x.keyed.key) ⊎ (y.keyed.key ≡ x.keyed.key → ⊥) → Apart x y
     go y among (inl same) = pairs_head Apart x y (filter (is_of x.keyed.key) xs) own (into_filter (is_of x.keyed.key) xs y among (eq-eqb y.keyed.key x.keyed.key same))
-    go y among (inr other) =
-        ((λ same. other (sym (ap (λ (q : Keyed). q.key) same))),
-        (λ (end, ended, before).
-        let row = pairs_head InOrder x y xs in_order among in
-        let low = (lie x (contains_here x xs)).0 in
-        let high = (lie y (contains_there x y xs among)).1 end ended in omega arith))
+    go y among (inr other) = (
+      (λ same. other (sym (ap (λ (q : Keyed). q.key) same))),
+      (λ (end, ended, before).
+          let row = pairs_head InOrder x y xs in_order among in
+          let low = (lie x (contains_here x xs)).0 in
+          let high = (lie y (contains_there x y xs among)).1 end ended in omega arith),
+    )
 
 abbrev EndsLate : ℕ → List Operation → Type 0
 EndsLate last os = (o : Operation) → Contains os o → (end : ℕ) → o.ended ≡ Some end → (o.began ≤ end) × (last ≤ end)
@@ -349,9 +350,10 @@ placed_apart k last (o ∷ later) ends once in_time =
         (its.0, omega arith)
 
     go : (x : Placed) → IsPlaced k (max last o.began) later x → MayStand (with_key k o) x.keyed
-    go x is =
-        ((λ same. pairs_head (λ one later. one ≢ later) o x.keyed.operation later once is.within (ap (λ (q : Keyed). q.operation) same)),
-        pairs_head InTime o x.keyed.operation later in_time is.within)
+    go x is = (
+      (λ same. pairs_head (λ one later. one ≢ later) o x.keyed.operation later once is.within (ap (λ (q : Keyed). q.operation) same)),
+      pairs_head InTime o x.keyed.operation later in_time is.within,
+    )
 
 -- ---- the order of all
 -- a bound of the keys
@@ -434,13 +436,16 @@ module _ (h : List Keyed) (early : NoneEndsEarly h) (each : (k : ℕ) → IsLine
       (part k (λ zs. AreAnswered None (map operation_of zs)) (subst (λ os. AreAnswered None os) (sym (operations_placed k 0 (order_of k))) (each k).1.answered) tt)
 
   pub each_together : AreLinearizable h
-  each_together = (whole, record {
-    taken = taken;
-    complete = complete;
-    once = pairs_weaker MayStand (λ one later. one ≢ later) whole (λ a b a_in b_in may. may.0) may_stand;
-    in_time = pairs_weaker MayStand (λ one later. IsBefore later.operation one.operation → ⊥) whole (λ a b a_in b_in may. may.1) may_stand;
-    answered = answered_from_keys (λ key. None) whole answered_part;
-  })
+  each_together = (
+    whole,
+    record {
+      taken = taken;
+      complete = complete;
+      once = pairs_weaker MayStand (λ one later. one ≢ later) whole (λ a b a_in b_in may. may.0) may_stand;
+      in_time = pairs_weaker MayStand (λ one later. IsBefore later.operation one.operation → ⊥) whole (λ a b a_in b_in may. may.1) may_stand;
+      answered = answered_from_keys (λ key. None) whole answered_part;
+    },
+  )
 
 pub each_by_itself : EachByItself
 each_by_itself h early = ((λ together k. together_each h together k), (λ each. each_together h early each))

@@ -1,5 +1,5 @@
 -- what it is for a history of many registers to be linearizable, each of which has a key
-use Rattle.std.specs.Prelude.{◌≡◌, ◌≢◌, ℕ, ◌<◌, ◌==◌, ◌↔◌, Bool, cond, List, [], ◌∷◌, Contains, Option, Some, None, All, AllPairs, ◌≤◌}
+use Rattle.std.specs.Prelude.{◌≡◌, ◌≢◌, ℕ, ◌==◌, ◌↔◌, cond, List, [], ◌∷◌, Contains, Option, Some, None, AllPairs, ◌≤◌}
 use Rattle.fy_registers.specs.declared.operation.Operation.{Operation}
 use Rattle.fy_registers.specs.declared.keyed.Keyed.{Keyed}
 use Rattle.fy_registers.specs.Linear.{HasEnded, IsBefore, held_after, IsAnswered, IsLinearizable}

@@ -56,7 +56,9 @@ impl Operation {
 fn are_within(operations: &[Operation], count: usize) -> bool
     ensures { IsTrue result ↔ All (IsWithin count) operations.now }
 {
-    operations.iter().all(|operation| operation.is_within(count))
+    operations
+        .iter()
+        .all(|operation| operation.is_within(count))
 }
 
 /// Whether the operations are a history as `judge` takes it: in the order in which they began, no
