@@ -1,4 +1,5 @@
 pub mod Building
+pub mod EachPart
 pub mod Histories
 pub mod KeyParts
 pub mod Lists

@@ -1,12 +1,10 @@
 -- what zones show of a history
 use Rattle.std.proofs.Common.{inl, inr, ◌⊎◌, ◌≡◌, ℕ, ◌+◌, ◌*◌, ◌<◌, ◌≤◌, ◌==◌, min, cond, List, [], ◌∷◌, ◌++◌, length, take, get_or, Some, None, Option, refl, sym, ap, subst, ◌∙◌, arith, All, IsPermutation, IfNone}
 use Rattle.std.specs.List.{Contains, AllPairs}
-use Rattle.std.specs.List.Sorted.{IsNonDecreasingBy}
 use Rattle.std.proofs.Math.Seq.{take-length}
 use Rattle.std.proofs.lemmas.List.{get_or_default, take_more}
 use Rattle.std.proofs.lemmas.List.Elements.{Contains-push, Contains-push_cases, Contains-append_left, All-contains}
 use Rattle.std.proofs.lemmas.List.Sorted.{Contains-permutation, IsPermutation-sym, sum_by-IsPermutation}
-use Rattle.std.proofs.lemmas.Bool.{cases_eq}
 use Rattle.fy_registers.specs.declared.operation.Act.TheVariants.{Read}
 use Rattle.fy_registers.specs.declared.operation.Operation.{Operation}
 use Rattle.fy_registers.specs.declared.evidence.Span.{Span}
@@ -15,7 +13,7 @@ use Rattle.fy_registers.specs.declared.evidence.Evidence.TheVariants.{Nothing, C
 use Rattle.fy_registers.specs.declared.zone.Zone.{Zone}
 use Rattle.fy_registers.specs.Linear.{HasEnded, IsHistory, IsWrittenOnce, IsLinearizable}
 use Rattle.fy_registers.specs.Evidence.{IsReadOf, IsSpanOf, Shows}
-use Rattle.fy_registers.specs.Zones.{IsZone, AreZones, AreTorn, IsLastOfNothing, IsNothingFirst, MayPrecede, zone_key}
+use Rattle.fy_registers.specs.Zones.{IsZone, AreZones, AreTorn, IsLastOfNothing, IsNothingFirst, MayPrecede}
 use Rattle.fy_registers.proofs.Lists.{contains_none, pairs_apart}
 use Rattle.fy_registers.proofs.Seeing.{began_before}
 use Rattle.fy_registers.proofs.Refuting.{evidence_refutes}
@@ -101,78 +99,6 @@ pub record RowSoFar (zones : List Zone) (i latest : ℕ) : Type 0 where
   pub within : latest < i
   pub last : (k : ℕ) (d : Zone) → k < i → (get_or zones k d).last.began ≤ (get_or zones latest d).last.began
   pub row : (a b : ℕ) (d : Zone) → a < b → b < i → MayPrecede (get_or zones a d) (get_or zones b d)
-
-pub row_begins : (zones : List Zone) → RowSoFar zones 1 0
-row_begins zones = record {
-  within = omega arith;
-  last = λ k d less. first k d (let none : k ≡ 0 = omega arith in none);
-  row = λ a b d less below. absurd (omega arith);
-}
-  where
-    first : (k : ℕ) (d : Zone) → k ≡ 0 → (get_or zones k d).last.began ≤ (get_or zones 0 d).last.began
-    first k d e = subst (λ n. (get_or zones n d).last.began ≤ (get_or zones 0 d).last.began) (sym e) (omega arith)
-
-module _ (zones : List Zone) (i latest : ℕ) (so_far : RowSoFar zones i latest) (d0 : Zone) (below : i < length zones) (fits : (get_or zones latest d0).last.began ≤ (get_or zones i d0).end) where
-  at_default : (k : ℕ) (d : Zone) → k < length zones → get_or zones k d ≡ get_or zones k d0
-  at_default k d less = get_or_default zones k d d0 less
-
-  fits_at : (d : Zone) → (get_or zones latest d).last.began ≤ (get_or zones i d).end
-  fits_at d =
-      let within = so_far.within in
-      let one : (get_or zones latest d).last.began ≡ (get_or zones latest d0).last.began = ap (λ (z : Zone). z.last.began) (at_default latest d (omega arith)) in
-      let two : (get_or zones i d).end ≡ (get_or zones i d0).end = ap (λ (z : Zone). z.end) (at_default i d below) in
-      omega arith
-
-  row_more : (a b : ℕ) (d : Zone) → a < b → b < i + 1 → MayPrecede (get_or zones a d) (get_or zones b d)
-  row_more a b d less most = go (cases_eq b i)
-    where
-      go : (b ≡ i) ⊎ (b ≡ i → ⊥) → MayPrecede (get_or zones a d) (get_or zones b d)
-      go (inl same) =
-          let low = so_far.last a d (omega arith) in
-          let fit = fits_at d in
-          subst (λ n. (get_or zones a d).last.began ≤ (get_or zones n d).end) (sym same) (omega arith)
-      go (inr other) = so_far.row a b d less (omega arith)
-
-  last_among : (new : ℕ) → ((d : Zone) → (get_or zones latest d).last.began ≤ (get_or zones new d).last.began) → ((d : Zone) → (get_or zones i d).last.began ≤ (get_or zones new d).last.began) → (k : ℕ) (d : Zone) → k < i + 1 → (get_or zones k d).last.began ≤ (get_or zones new d).last.began
-  last_among new old now k d less = go (cases_eq k i)
-    where
-      go : (k ≡ i) ⊎ (k ≡ i → ⊥) → (get_or zones k d).last.began ≤ (get_or zones new d).last.began
-      go (inl same) = subst (λ n. (get_or zones n d).last.began ≤ (get_or zones new d).last.began) (sym same) (now d)
-      go (inr other) = let low = so_far.last k d (omega arith) in let up = old d in omega arith
-
-  began_default : (k : ℕ) (d : Zone) → k < length zones → (get_or zones k d).last.began ≡ (get_or zones k d0).last.began
-  began_default k d less = ap (λ (z : Zone). z.last.began) (at_default k d less)
-
-  pub row_same : (get_or zones i d0).last.began ≤ (get_or zones latest d0).last.began → RowSoFar zones (i + 1) latest
-  row_same low = record {
-    within = let within = so_far.within in omega arith;
-    last = last_among latest (λ d. omega arith) (λ d. now d);
-    row = row_more;
-  }
-    where
-      now : (d : Zone) → (get_or zones i d).last.began ≤ (get_or zones latest d).last.began
-      now d = let within = so_far.within in let one = began_default i d below in let two = began_default latest d (omega arith) in omega arith
-
-  pub row_later : (get_or zones latest d0).last.began < (get_or zones i d0).last.began → RowSoFar zones (i + 1) i
-  row_later up = record {
-    within = omega arith;
-    last = last_among i (λ d. now d) (λ d. omega arith);
-    row = row_more;
-  }
-    where
-      now : (d : Zone) → (get_or zones latest d).last.began ≤ (get_or zones i d).last.began
-      now d = let within = so_far.within in let one = began_default i d below in let two = began_default latest d (omega arith) in omega arith
-
-pub row_ends : (zones : List Zone) (i latest : ℕ) → length zones ≤ i → RowSoFar zones i latest → AllPairs MayPrecede zones
-row_ends zones i latest long so_far a b d less below = so_far.row a b d less (omega arith)
-
--- two zones of a sorted row, of which the later ended first
-pub torn_found : (zones : List Zone) → IsNonDecreasingBy zone_key zones → (i latest : ℕ) (d0 : Zone) → latest < i → i < length zones → (get_or zones i d0).end < (get_or zones latest d0).last.began → AreTorn zones (get_or zones latest d0) (get_or zones i d0)
-torn_found zones sorted i latest d0 less below late = record {
-  places = (latest, i, less, below, get_or_default zones latest (get_or zones latest d0) d0 (omega arith), get_or_default zones i (get_or zones i d0) d0 below);
-  late = late;
-  ordered = sorted latest i d0 (omega arith) below;
-}
 
 -- ---- the zones in another order
 pub zones_moved : (h : List Operation) (zones moved : List Zone) → IsPermutation zones moved → AreZones h zones → AreZones h moved

@@ -7,7 +7,7 @@ use Rattle.fy_registers.specs.declared.evidence.Evidence.{Evidence}
 use Rattle.fy_registers.specs.declared.evidence.Evidence.TheVariants.{Unwritten, BeforeWrite, Nothing, Conflict}
 use Rattle.fy_registers.specs.declared.evidence.Judgement.{Judgement}
 use Rattle.fy_registers.specs.declared.evidence.Judgement.TheVariants.{Linearizable, Not, Twice}
-use Rattle.fy_registers.specs.Linear.{value_of, HasEnded, IsBefore, IsLinearizable, IsWrittenOnce}
+use Rattle.fy_registers.specs.Linear.{value_of, HasEnded, IsBefore, IsLinearizable, IsWrittenOnce, IsHistory}
 
 -- a read of the history that answered so
 pub record IsReadOf (h : List Operation) (answer : Option ℕ) (o : Operation) : Type 0 where
@@ -58,3 +58,8 @@ abbrev pub Judges : List Operation → Judgement → Type 0
 Judges h Linearizable = IsWrittenOnce h × IsLinearizable h
 Judges h (Not evidence) = IsWrittenOnce h × Shows h evidence × (IsLinearizable h → ⊥)
 Judges h (Twice one other) = IsTwice h one other
+
+-- a judgement holds of operations that are a history; there is none where they are none
+abbrev pub IsJudged : List Operation → Option Judgement → Type 0
+IsJudged h None = IsHistory h → ⊥
+IsJudged h (Some judgement) = IsHistory h × Judges h judgement

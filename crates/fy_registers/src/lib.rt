@@ -10,5 +10,5 @@ mod zone;
 
 pub use evidence::{Evidence, Judgement, Span};
 pub use judging::judge;
-pub use keyed::{Keyed, split_by_key};
+pub use keyed::{Keyed, judge_each, split_by_key};
 pub use operation::{Act, Operation, is_history};
