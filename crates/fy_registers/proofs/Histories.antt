@@ -5,6 +5,11 @@ use Rattle.std.proofs.lemmas.List.Elements.{All-contains}
 use Rattle.std.proofs.lemmas.Bool.{cases_eq}
 use Rattle.fy_registers.specs.declared.operation.Operation.{Operation}
 use Rattle.fy_registers.specs.Linear.{value_of, IsWithin, IsHistory}
+use Rattle.fy_registers.specs.Zones.{HasRoom}
+use Rattle.std.proofs.Math.Seq.{take-length}
+use Rattle.std.proofs.lemmas.List.{take_more}
+use Rattle.std.proofs.lemmas.List.Elements.{Contains-push_cases}
+use Rattle.std.proofs.Common.{take, ap, ◌∙◌}
 
 module _ (h : List Operation) (history : IsHistory h) (o : Operation) (among : Contains h o) where
   within : IsWithin (length h) o
@@ -38,3 +43,15 @@ pub out_of_order : (h : List Operation) → ((k : ℕ) × (k + 1 < length h) × 
 out_of_order h (k, below, tested) d history =
     let low = history.in_order k (k + 1) d (omega arith) below in
     let high = ltb-false _ _ (sym (tested d)) in omega arith
+
+-- ---- a number above all values
+module _ (h : List Operation) (i : ℕ) (d0 : Operation) (below : i < length h) where
+  pub room_more : (count more : ℕ) → HasRoom (take i h) count → count ≤ more → ((v : ℕ) → value_of (get_or h i d0) ≡ Some v → v < more) → HasRoom (take (i + 1) h) more
+  room_more count more room up here o among v value = go (Contains-push_cases (take i h) (get_or h i d0) o (subst (λ xs. Contains xs o) (take_more h i d0 below) among))
+    where
+      go : Contains (take i h) o ⊎ (get_or h i d0 ≡ o) → v < more
+      go (inl there) = let low = room o there v value in omega arith
+      go (inr same) = here v (ap value_of same ∙ value)
+
+pub room_ends : (h : List Operation) (i count : ℕ) → i ≡ length h → HasRoom (take i h) count → HasRoom h count
+room_ends h i count is room = subst (λ xs. HasRoom xs count) (ap (λ n. take n h) is ∙ take-length h) room

@@ -1,5 +1,5 @@
 -- which write of a value the table has
-use Rattle.std.proofs.Common.{inl, inr, ◌⊎◌, ◌≡◌, ℕ, ◌+◌, ◌<◌, List, [], ◌∷◌, ◌++◌, length, take, get_or, Some, None, sym, ap, subst, ◌∙◌, arith}
+use Rattle.std.proofs.Common.{inl, inr, ◌⊎◌, ◌≡◌, ℕ, ◌+◌, ◌<◌, List, [], ◌∷◌, ◌++◌, length, take, get_or, Some, None, sym, ap, subst, ◌∙◌}
 use Rattle.std.specs.List.{Contains}
 use Rattle.std.proofs.lemmas.List.{take_more, get_or_default}
 use Rattle.std.proofs.Math.Seq.{take-length}
@@ -7,11 +7,10 @@ use Rattle.std.proofs.lemmas.List.Elements.{Contains-push_cases, Contains-get_or
 use Rattle.fy_registers.specs.declared.operation.Act.TheVariants.{Write}
 use Rattle.fy_registers.specs.declared.operation.Operation.{Operation}
 use Rattle.fy_registers.specs.declared.zone.Seen.{Seen}
-use Rattle.fy_registers.specs.Linear.{value_in, IsHistory, IsWrittenOnce}
+use Rattle.fy_registers.specs.Linear.{value_in, IsWrittenOnce}
 use Rattle.fy_registers.specs.Evidence.{IsTwice}
 use Rattle.fy_registers.specs.Zones.{AreSeen}
 use Rattle.fy_registers.proofs.Lists.{contains_none}
-use Rattle.fy_registers.proofs.Histories.{value_small}
 
 -- each write of the first operations is the one that the table has
 abbrev pub AreAlone : List Operation → ℕ → List Seen → Type 0
@@ -40,11 +39,10 @@ alone_ends h table d alone one other v one_in other_in one_writes other_writes =
     let equal : one ≡ other = cc in equal
 
 -- ---- a step of the loop
-module _ (h : List Operation) (history : IsHistory h) (table : List Seen) (seen : AreSeen h table) (i : ℕ) (d0 : Operation) (below : i < length h) (v : ℕ) (writes : (get_or h i d0).act ≡ Write v) where
+module _ (h : List Operation) (table : List Seen) (seen : AreSeen h table) (i : ℕ) (d0 : Operation) (below : i < length h) (v : ℕ) (writes : (get_or h i d0).act ≡ Write v) where
   pub value_below : v < length table
   value_below =
-      let less = value_small h history (get_or h i d0) (Contains-get_or h i d0 below) v (ap value_in writes) in
-      let count = seen.count in omega arith
+      seen.room (get_or h i d0) (Contains-get_or h i d0 below) v (ap value_in writes)
 
   pub twice_found : (e : Seen) (w : Operation) → (get_or table v e).write ≡ Some w → (w ≡ get_or h i d0 → ⊥) → IsTwice h (get_or h i d0) w
   twice_found e w is other =

@@ -12,9 +12,8 @@ use Rattle.fy_registers.specs.declared.zone.Ended.{Ended}
 use Rattle.fy_registers.specs.declared.zone.Seen.{Seen}
 use Rattle.fy_registers.specs.Linear.{value_in, value_of, HasEnded, IsHistory}
 use Rattle.fy_registers.specs.Evidence.{IsWriteOf}
-use Rattle.fy_registers.specs.Zones.{next_write, next_ended, AreEnded, IsSeen, AreSeen}
+use Rattle.fy_registers.specs.Zones.{HasRoom, next_write, next_ended, AreEnded, IsSeen, AreSeen}
 use Rattle.fy_registers.proofs.Lists.{contains_none}
-use Rattle.fy_registers.proofs.Histories.{value_small}
 
 pub nothing_seen : (v : ℕ) → IsSeen [] v (record { write = None; ended = None })
 nothing_seen v = record {
@@ -160,7 +159,7 @@ module _ (done : List Operation) (o : Operation) where
 -- ---- the table
 -- what is seen of each value in the first operations
 abbrev pub SeenSoFar : List Operation → ℕ → List Seen → Type 0
-SeenSoFar h i table = (length table ≡ length h) × ((v : ℕ) (d : Seen) → v < length table → IsSeen (take i h) v (get_or table v d))
+SeenSoFar h i table = HasRoom h (length table) × ((v : ℕ) (d : Seen) → v < length table → IsSeen (take i h) v (get_or table v d))
 
 -- those before an operation began before it
 pub began_before : (h : List Operation) → IsHistory h → (i : ℕ) (o : Operation) → i < length h → ((d : Operation) → get_or h i d ≡ o) → (x : Operation) → Contains (take i h) x → x.began < o.began
@@ -187,7 +186,7 @@ module _ (h : List Operation) (history : IsHistory h) (i : ℕ) (o : Operation) 
   pub table_more : (table : List Seen) → SeenSoFar h i table
       → (v : ℕ) → v < length table → value_of o ≡ Some v → (s s' : Seen) → ((d : Seen) → get_or table v d ≡ s) → s' ≡ record { write = next_write s.write o o.act; ended = next_ended s.ended o o.ended }
       → SeenSoFar h (i + 1) (set table v s')
-  table_more table so_far v inside value s s' was now = (length-set table v s' ∙ so_far.0, λ u d less. go u d less (cases_eq u v))
+  table_more table so_far v inside value s s' was now = ((λ x among u e. subst (λ n. u < n) (sym (length-set table v s')) (so_far.0 x among u e)), λ u d less. go u d less (cases_eq u v))
     where
       at_value : (d : Seen) → IsSeen (take (i + 1) h) v (get_or (set table v s') v d)
       at_value d = subst (λ q. IsSeen (take (i + 1) h) v q) (sym (get_or-set_same table v s' d inside ∙ now))
@@ -203,16 +202,18 @@ module _ (h : List Operation) (history : IsHistory h) (i : ℕ) (o : Operation) 
           (seen_still (take i h) o u (λ e. other (let both : Some u ≡ Some v = sym e ∙ value in let equal : u ≡ v = cc in equal)) (get_or table u d) (so_far.1 u d (omega arith))))
 
 -- ---- the start and the end
-pub table_begins : (h : List Operation) (table : List Seen) → table ≡ replicate (length h) (record { write = None; ended = None }) → SeenSoFar h 0 table
-table_begins h table is = (
-  ap length is ∙ length-replicate (length h) _,
-  λ v d less.
-      subst (λ q. IsSeen [] v q) (sym (ap (λ xs. get_or xs v d) is ∙ get_or-replicate (length h) v _ d (let size = ap length is ∙ length-replicate (length h) (record { write = None; ended = None }) in omega arith))) (nothing_seen v),
+pub table_begins : (h : List Operation) (count : ℕ) → HasRoom h count → (table : List Seen) → table ≡ replicate count (record { write = None; ended = None }) → SeenSoFar h 0 table
+table_begins h count room table is = (
+  subst (λ n. HasRoom h n) (sym size) room,
+  λ v d less. subst (λ q. IsSeen [] v q) (sym (ap (λ xs. get_or xs v d) is ∙ get_or-replicate count v _ d (let e = size in omega arith))) (nothing_seen v),
 )
+  where
+    size : length table ≡ count
+    size = ap length is ∙ length-replicate count _
 
 pub table_ends : (h : List Operation) (table : List Seen) → SeenSoFar h (length h) table → AreSeen h table
 table_ends h table so_far = record {
-  count = so_far.0;
+  room = so_far.0;
   each = λ v d less. subst (λ xs. IsSeen xs v (get_or table v d)) (take-length h) (so_far.1 v d less);
 }
 
@@ -223,9 +224,7 @@ module _ (h : List Operation) (history : IsHistory h) (i : ℕ) (d0 : Operation)
       → (ended : Option Ended) → ended ≡ next_ended s.ended (get_or h i d0) (get_or h i d0).ended
       → SeenSoFar h (i + 1) (set table v (record { write = write; ended = ended }))
   seen_step v value s is write write_is ended ended_is =
-      let less = value_small h history (get_or h i d0) (Contains-get_or h i d0 below) v value in
-      let count = so_far.0 in
-      let inside : v < length table = omega arith in
+      let inside : v < length table = so_far.0 (get_or h i d0) (Contains-get_or h i d0 below) v value in
       table_more h history i (get_or h i d0) below (λ d. get_or_default h i d d0 below) table so_far v inside value s (record { write = write; ended = ended })
       (λ d. get_or_default table v d s inside ∙ sym is)
       (λ k. record { write = write_is k; ended = ended_is k })

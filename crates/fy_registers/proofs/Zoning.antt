@@ -18,7 +18,7 @@ use Rattle.fy_registers.specs.Evidence.{IsReadOf, IsWriteOf, Shows}
 use Rattle.fy_registers.specs.Zones.{AreEnded, IsSeen, AreSeen, IsZone, IsZoneOf, IsNoZoneOf, AreZones}
 use Rattle.fy_registers.proofs.Lists.{contains_none, contains_here, from_filter}
 use Rattle.fy_registers.proofs.Refuting.{evidence_refutes}
-use Rattle.fy_registers.proofs.Histories.{ends_late, value_small}
+use Rattle.fy_registers.proofs.Histories.{ends_late}
 
 module _ (h : List Operation) (v : ℕ) (s : Seen) (seen : IsSeen h v s) where
   -- what is seen makes a zone
@@ -169,17 +169,16 @@ module _ (h : List Operation) (table : List Seen) (i : ℕ) (d0 : Seen) (below :
           let few : cond (z.value == v) 1 0 ≡ zero = rw (ne_eqb z.value v other) refl in
           omega arith
 
-pub zones_end : (h : List Operation) → IsHistory h → (table : List Seen) → AreSeen h table → (d : Seen) (zones : List Zone) → ZonesSoFar h table (length table) zones → AreZones h zones
-zones_end h history table seen d zones so_far = record {
+pub zones_end : (h : List Operation) → (table : List Seen) → AreSeen h table → (d : Seen) (zones : List Zone) → ZonesSoFar h table (length table) zones → AreZones h zones
+zones_end h table seen d zones so_far = record {
   each = so_far.each;
-  all = λ o within done v value. all o within done v value (value_small h history o within v value);
+  all = all;
   apart = so_far.apart;
 }
   where
-    all : (o : Operation) → Contains h o → HasEnded o → (v : ℕ) → value_of o ≡ Some v → v < length h → (z : Zone) × Contains zones z × (z.value ≡ v)
-    all o within done v value less =
-        let count = seen.count in
-        let inside : v < length table = omega arith in
+    all : (o : Operation) → Contains h o → HasEnded o → (v : ℕ) → value_of o ≡ Some v → (z : Zone) × Contains zones z × (z.value ≡ v)
+    all o within done v value =
+        let inside = seen.room o within v value in
         let some = (seen.each v d inside).all_ended o within value done in
         so_far.all v d some.0 inside some.1
 

@@ -46,9 +46,13 @@ pub record IsSeen (h : List Operation) (v : ℕ) (seen : Seen) : Type 0 where
   pub all_ended : (o : Operation) → Contains h o → value_of o ≡ Some v → HasEnded o →
       (e : Ended) × (seen.ended ≡ Some e)
 
+-- each value of a history is below a number
+abbrev pub HasRoom : List Operation → ℕ → Type 0
+HasRoom h count = (o : Operation) → Contains h o → (v : ℕ) → value_of o ≡ Some v → v < count
+
 -- a table of what is seen of each value of a history
 pub record AreSeen (h : List Operation) (table : List Seen) : Type 0 where
-  pub count : length table ≡ length h
+  pub room : HasRoom h (length table)
   pub each : (v : ℕ) (d : Seen) → v < length table → IsSeen h v (slice_index_or table v d)
 
 -- the operations of a value: its write, the one that ended first, and of the write and those that

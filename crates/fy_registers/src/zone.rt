@@ -2,7 +2,7 @@
 
 ghost use Rattle.std.specs.Prelude.{◌≡◌, ◌≢◌, ◌<◌, ◌≤◌, ℕ, IfOk, IfSome, IfNone, IfErr, length, vec_len, slice_index_or, Contains, All};
 ghost use Rattle.fy_registers.specs.Linear.{IsHistory, IsWrittenOnce};
-ghost use Rattle.fy_registers.specs.Zones.{zone_key, next_write, next_ended, AreSeen, IsZoneOf, IsNoZoneOf, AreFound};
+ghost use Rattle.fy_registers.specs.Zones.{zone_key, next_write, next_ended, AreSeen, HasRoom, IsZoneOf, IsNoZoneOf, AreFound};
 ghost use Rattle.fy_registers.specs.Evidence.{IsTwice};
 
 use crate::evidence::{Evidence, Judgement, Span};
@@ -101,6 +101,21 @@ fn ended_with(ended: Option<Ended>, operation: Operation) -> Option<Ended>
     }
 }
 
+/// How many values there are, where they are numbered from 0: one more than the greatest.
+fn value_count(operations: &[Operation]) -> usize
+    requires { IsHistory operations.now }
+    ensures room { HasRoom operations.now result }
+    ensures few { result ≤ length operations.now }
+{
+    let mut count = 0;
+    for operation in operations {
+        if let Some(value) = operation.value() {
+            count = count.max(value as usize + 1);
+        }
+    }
+    count
+}
+
 /// What is seen of each value.
 fn seen_of(alloc: Global, operations: &[Operation]) -> Result<Vec<Seen>, AllocError>
     requires { IsHistory operations.now }
@@ -110,7 +125,7 @@ fn seen_of(alloc: Global, operations: &[Operation]) -> Result<Vec<Seen>, AllocEr
         write: None,
         ended: None,
     };
-    let mut table = Vec::from_elem(alloc, nothing, operations.len())?;
+    let mut table = Vec::from_elem(alloc, nothing, value_count(operations))?;
     for operation in operations {
         if let Some(value) = operation.value() {
             let seen = table[value as usize];
@@ -125,8 +140,7 @@ fn seen_of(alloc: Global, operations: &[Operation]) -> Result<Vec<Seen>, AllocEr
 
 /// Two operations that write one value.
 fn repeated(operations: &[Operation], table: &[Seen]) -> Option<(Operation, Operation)>
-    requires history { IsHistory operations.now }
-    requires seen { AreSeen operations.now table.now }
+    requires { AreSeen operations.now table.now }
     ensures found { IfSome result (λ pair. IsTwice operations.now pair.0 pair.1) }
     ensures none { IfNone result (IsWrittenOnce operations.now) }
 {

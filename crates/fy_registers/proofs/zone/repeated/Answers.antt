@@ -13,18 +13,18 @@ abbrev no_seen : Seen
 no_seen = record { write = None; ended = None }
 
 pub bounds : goal.bounds
-bounds c = value_below c.args.operations.now c.requires.history c.args.table.now c.requires.seen c.loop-operation.operation-index no_operation c.loop-operation-test.true c.in-Write.value c.in-Write.is
+bounds c = value_below c.args.operations.now c.args.table.now c.requires c.loop-operation.operation-index no_operation c.loop-operation-test.true c.in-Write.value c.in-Write.is
 
 pub returns-then-ne-clause-found : goal.returns-then-ne-clause-found
 returns-then-ne-clause-found c =
-    twice_found c.args.operations.now c.requires.history c.args.table.now c.requires.seen c.loop-operation.operation-index no_operation c.loop-operation-test.true c.in-Write.value c.in-Write.is
+    twice_found c.args.operations.now c.args.table.now c.requires c.loop-operation.operation-index no_operation c.loop-operation-test.true c.in-Write.value c.in-Write.is
     no_seen c.in-Some.write c.in-Some.is (search (rules, c.if-ne.ensures))
 
 pub loop-operation-preserved : goal.loop-operation-preserved
 loop-operation-preserved c = elim c.match-operation.branch [
-  | in-Write+in-Some+else-ne w ↦ alone_same c.args.operations.now c.requires.history c.args.table.now c.requires.seen c.loop-operation.operation-index no_operation c.loop-operation-test.true w.in-Write.value w.in-Write.is
+  | in-Write+in-Some+else-ne w ↦ alone_same c.args.operations.now c.args.table.now c.requires c.loop-operation.operation-index no_operation c.loop-operation-test.true w.in-Write.value w.in-Write.is
       no_seen w.in-Some.write w.in-Some.is (search (rules, w.if-ne.ensures)) c.loop-operation.invariant
-  | in-Write+in_default-write w ↦ alone_none c.args.operations.now c.requires.history c.args.table.now c.requires.seen c.loop-operation.operation-index no_operation c.loop-operation-test.true w.in-Write.value w.in-Write.is
+  | in-Write+in_default-write w ↦ alone_none c.args.operations.now c.args.table.now c.requires c.loop-operation.operation-index no_operation c.loop-operation-test.true w.in-Write.value w.in-Write.is
       no_seen w.in_default-write.is c.loop-operation.invariant
   | in_default w ↦ alone_other c.args.operations.now c.args.table.now c.loop-operation.operation-index no_operation c.loop-operation-test.true w.in_default.not-Write c.loop-operation.invariant
 ]

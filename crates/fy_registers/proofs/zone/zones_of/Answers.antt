@@ -36,6 +36,6 @@ loop-value-preserved c =
 pub returns : goal.returns
 returns c = (
   c.in_default.ensures.none,
-  zones_end c.args.operations.now c.requires c.deref-seen-items.result.now (table_seen c.args.operations.now c.in_ok-table.table.items c.deref-seen-items.result.now c.deref-seen-items.ensures.value c.in_ok-table.ensures)
+  zones_end c.args.operations.now c.deref-seen-items.result.now (table_seen c.args.operations.now c.in_ok-table.table.items c.deref-seen-items.result.now c.deref-seen-items.ensures.value c.in_ok-table.ensures)
       no_seen c.loop-value.zones.items (subst (λ i. ZonesSoFar c.args.operations.now c.deref-seen-items.result.now i c.loop-value.zones.items) (let same : c.loop-value.value ≡ length c.deref-seen-items.result.now = omega arith in same) c.loop-value.invariant),
 )
