@@ -191,7 +191,6 @@ module _ (h : List Operation) (history : IsHistory h) (i : ℕ) (o : Operation) 
           (subst (λ xs. IsSeen xs u (get_or table u d)) (sym next_is)
           (seen_still (take i h) o u (λ e. other (let both : Some u ≡ Some v = sym e ∙ value in let equal : u ≡ v = cc in equal)) (get_or table u d) (so_far.1 u d (omega arith))))
 
--- ---- the start and the end
 -- ---- a step of the loop
 module _ (h : List Operation) (history : IsHistory h) (i : ℕ) (d0 : Operation) (below : i < length h) (table : List Seen) (so_far : SeenSoFar h i table) where
   pub seen_step : (v : ℕ) → value_of (get_or h i d0) ≡ Some v → (s : Seen) → s ≡ get_or table v s
