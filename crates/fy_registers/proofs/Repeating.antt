@@ -10,15 +10,11 @@ use Rattle.fy_registers.specs.declared.zone.Seen.{Seen}
 use Rattle.fy_registers.specs.Linear.{value_in, IsWrittenOnce}
 use Rattle.fy_registers.specs.Evidence.{IsTwice}
 use Rattle.fy_registers.specs.Zones.{AreSeen}
-use Rattle.fy_registers.proofs.Lists.{contains_none}
 
 -- each write of the first operations is the one that the table has
 abbrev pub AreAlone : List Operation → ℕ → List Seen → Type 0
 AreAlone h i table = (o : Operation) (v : ℕ) (d : Seen) → Contains (take i h) o → o.act ≡ Write v →
     (get_or table v d).write ≡ Some o
-
-pub alone_begins : (h : List Operation) (table : List Seen) → AreAlone h 0 table
-alone_begins h table o v d among writes = absurd (contains_none o among)
 
 module _ (h : List Operation) (i : ℕ) (o : Operation) (below : i < length h) (at : (d : Operation) → get_or h i d ≡ o) (table : List Seen) where
   next_is : take (i + 1) h ≡ take i h ++ o ∷ []

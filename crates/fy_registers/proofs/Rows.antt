@@ -1,7 +1,6 @@
 -- what zones show of a history
 use Rattle.std.proofs.Common.{inl, inr, ◌⊎◌, ◌≡◌, ℕ, ◌+◌, ◌*◌, ◌<◌, ◌≤◌, ◌==◌, min, cond, List, [], ◌∷◌, ◌++◌, length, take, get_or, Some, None, Option, refl, sym, ap, subst, ◌∙◌, arith, All, IsPermutation, IfNone}
 use Rattle.std.specs.List.{Contains, AllPairs}
-use Rattle.std.proofs.Math.Seq.{take-length}
 use Rattle.std.proofs.lemmas.List.{get_or_default, take_more}
 use Rattle.std.proofs.lemmas.List.Elements.{Contains-push, Contains-push_cases, Contains-append_left, All-contains}
 use Rattle.std.proofs.lemmas.List.Sorted.{Contains-permutation, IsPermutation-sym, sum_by-IsPermutation}
@@ -14,18 +13,12 @@ use Rattle.fy_registers.specs.declared.zone.Zone.{Zone}
 use Rattle.fy_registers.specs.Linear.{HasEnded, IsHistory, IsWrittenOnce, IsLinearizable}
 use Rattle.fy_registers.specs.Evidence.{IsReadOf, IsSpanOf, Shows}
 use Rattle.fy_registers.specs.Zones.{IsZone, AreZones, AreTorn, IsLastOfNothing, IsNothingFirst, MayPrecede}
-use Rattle.fy_registers.proofs.Lists.{contains_none, pairs_apart}
+use Rattle.fy_registers.proofs.Lists.{pairs_apart}
 use Rattle.fy_registers.proofs.Seeing.{began_before}
 use Rattle.fy_registers.proofs.Refuting.{evidence_refutes}
 use Rattle.fy_registers.proofs.Building.{linearizable}
 
 -- ---- the last read that found nothing
-pub last_begins : IsLastOfNothing [] None
-last_begins = record {
-  found = λ r e. let x : ⊥ = cc in absurd x;
-  latest = λ o read. absurd (contains_none o read.within);
-}
-
 module _ (h : List Operation) (history : IsHistory h) (i : ℕ) (d0 : Operation) (below : i < length h) where
   abbrev next : Operation
   next = get_or h i d0
@@ -70,9 +63,6 @@ module _ (h : List Operation) (history : IsHistory h) (i : ℕ) (d0 : Operation)
       go : (o : Operation) → IsReadOf (take i h) None o ⊎ (next ≡ o) → o.began ≤ next.began
       go o (inl old) = let less = began_before h history i next below (λ d. get_or_default h i d d0 below) o old.within in omega arith
       go o (inr same) = let equal : next.began ≡ o.began = ap (λ (q : Operation). q.began) same in omega arith
-
-pub last_ends : (h : List Operation) (i : ℕ) → i ≡ length h → (last : Option Operation) → IsLastOfNothing (take i h) last → IsLastOfNothing h last
-last_ends h i is last so_far = subst (λ xs. IsLastOfNothing xs last) (ap (λ k. take k h) is ∙ take-length h) so_far
 
 -- ---- where nothing was found
 module _ (h : List Operation) (zones : List Zone) (last : Option Operation) (is_last : IsLastOfNothing h last) where

@@ -1,8 +1,7 @@
 -- what an operation more changes of what is seen
-use Rattle.std.proofs.Common.{inl, inr, ◌⊎◌, ◌≡◌, ℕ, ◌+◌, ◌<◌, ◌≤◌, Bool, true, false, cond, nat_lt, List, [], ◌∷◌, ◌++◌, length, take, get_or, set, replicate, Some, None, Option, refl, sym, ap, subst, ◌∙◌, arith, ltb-true, ltb-false}
+use Rattle.std.proofs.Common.{inl, inr, ◌⊎◌, ◌≡◌, ℕ, ◌+◌, ◌<◌, ◌≤◌, Bool, true, false, cond, nat_lt, List, [], ◌∷◌, ◌++◌, length, take, get_or, set, Some, None, Option, refl, sym, ap, subst, ◌∙◌, arith, ltb-true, ltb-false}
 use Rattle.std.specs.List.{Contains}
-use Rattle.std.proofs.lemmas.List.{get_or_default, take_more, get_or-set_same, get_or-set_other, get_or-take, length-take-le, length-set, length-replicate, get_or-replicate}
-use Rattle.std.proofs.Math.Seq.{take-length}
+use Rattle.std.proofs.lemmas.List.{get_or_default, take_more, get_or-set_same, get_or-set_other, get_or-take, length-take-le, length-set}
 use Rattle.std.proofs.lemmas.List.Elements.{Contains-push, Contains-push_cases, Contains-append_left, Contains-get_or}
 use Rattle.std.proofs.lemmas.Bool.{cases_eq}
 use Rattle.fy_registers.specs.declared.operation.Act.{Act}
@@ -12,16 +11,7 @@ use Rattle.fy_registers.specs.declared.zone.Ended.{Ended}
 use Rattle.fy_registers.specs.declared.zone.Seen.{Seen}
 use Rattle.fy_registers.specs.Linear.{value_in, value_of, HasEnded, IsHistory}
 use Rattle.fy_registers.specs.Evidence.{IsWriteOf}
-use Rattle.fy_registers.specs.Zones.{HasRoom, next_write, next_ended, AreEnded, IsSeen, AreSeen}
-use Rattle.fy_registers.proofs.Lists.{contains_none}
-
-pub nothing_seen : (v : ℕ) → IsSeen [] v (record { write = None; ended = None })
-nothing_seen v = record {
-  write = λ o e. let x : ⊥ = cc in absurd x;
-  written = λ o writes. absurd (contains_none o writes.within);
-  ended = λ e is. let x : ⊥ = cc in absurd x;
-  all_ended = λ o within value ended. absurd (contains_none o within);
-}
+use Rattle.fy_registers.specs.Zones.{HasRoom, next_write, next_ended, AreEnded, IsSeen}
 
 module _ (done : List Operation) (o : Operation) where
   abbrev more : List Operation
@@ -200,22 +190,6 @@ module _ (h : List Operation) (history : IsHistory h) (i : ℕ) (o : Operation) 
           subst (λ q. IsSeen (take (i + 1) h) u q) (sym (get_or-set_other table v u s' d other))
           (subst (λ xs. IsSeen xs u (get_or table u d)) (sym next_is)
           (seen_still (take i h) o u (λ e. other (let both : Some u ≡ Some v = sym e ∙ value in let equal : u ≡ v = cc in equal)) (get_or table u d) (so_far.1 u d (omega arith))))
-
--- ---- the start and the end
-pub table_begins : (h : List Operation) (count : ℕ) → HasRoom h count → (table : List Seen) → table ≡ replicate count (record { write = None; ended = None }) → SeenSoFar h 0 table
-table_begins h count room table is = (
-  subst (λ n. HasRoom h n) (sym size) room,
-  λ v d less. subst (λ q. IsSeen [] v q) (sym (ap (λ xs. get_or xs v d) is ∙ get_or-replicate count v _ d (let e = size in omega arith))) (nothing_seen v),
-)
-  where
-    size : length table ≡ count
-    size = ap length is ∙ length-replicate count _
-
-pub table_ends : (h : List Operation) (table : List Seen) → SeenSoFar h (length h) table → AreSeen h table
-table_ends h table so_far = record {
-  room = so_far.0;
-  each = λ v d less. subst (λ xs. IsSeen xs v (get_or table v d)) (take-length h) (so_far.1 v d less);
-}
 
 -- ---- a step of the loop
 module _ (h : List Operation) (history : IsHistory h) (i : ℕ) (d0 : Operation) (below : i < length h) (table : List Seen) (so_far : SeenSoFar h i table) where

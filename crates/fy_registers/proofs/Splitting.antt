@@ -1,6 +1,5 @@
 -- the parts of the keys, as far as the operations were read
-use Rattle.std.proofs.Common.{inl, inr, ◌⊎◌, ◌≡◌, ℕ, ◌+◌, ◌<◌, ◌==◌, Bool, true, false, cond, List, [], ◌∷◌, ◌++◌, length, take, get_or, set, Some, None, Option, refl, sym, ap, subst, ◌∙◌, arith, All, Vec, Global, slice_get, IfSome, append-nil, eq-eqb, ne_eqb}
-use Rattle.std.proofs.lemmas.List.Elements.{All-get_or}
+use Rattle.std.proofs.Common.{inl, inr, ◌⊎◌, ◌≡◌, ℕ, ◌+◌, ◌<◌, ◌==◌, Bool, true, false, cond, List, [], ◌∷◌, ◌++◌, length, take, get_or, set, Some, None, Option, refl, sym, ap, subst, ◌∙◌, arith, Vec, Global, slice_get, IfSome, append-nil, eq-eqb, ne_eqb}
 use Rattle.std.proofs.lemmas.Option.{get_or_from_slice_get}
 use Rattle.std.proofs.Math.Seq.{take-length}
 use Rattle.std.proofs.lemmas.List.{take_more, get_or-set_same, get_or-set_other, length-set}
@@ -8,9 +7,6 @@ use Rattle.std.proofs.lemmas.Bool.{cases_eq}
 use Rattle.fy_registers.specs.declared.operation.Operation.{Operation}
 use Rattle.fy_registers.specs.declared.keyed.Keyed.{Keyed}
 use Rattle.fy_registers.specs.Keys.{of_key}
-
-abbrev Part : Type 0
-Part = Vec Operation Global
 
 -- each part has the operations of its key of the first so many
 abbrev pub SplitSoFar : List Keyed → ℕ → ℕ → List (Vec Operation Global) → Type 0
@@ -23,9 +19,6 @@ of_key-push k (y ∷ xs) x = go (y.key == k) (of_key-push k xs x)
     go : (b : Bool) → of_key k (xs ++ x ∷ []) ≡ of_key k xs ++ cond (x.key == k) (x.operation ∷ []) [] → cond b (y.operation ∷ of_key k (xs ++ x ∷ [])) (of_key k (xs ++ x ∷ [])) ≡ cond b (y.operation ∷ of_key k xs) (of_key k xs) ++ cond (x.key == k) (x.operation ∷ []) []
     go true e = ap (λ os. y.operation ∷ os) e
     go false e = e
-
-pub split_begins : (h : List Keyed) (count : ℕ) (parts : List (Vec Operation Global)) → length parts ≡ count → All (λ part. part.items ≡ []) parts → SplitSoFar h 0 count parts
-split_begins h count parts size empty = (size, λ key d less. All-get_or (λ (part : Vec Operation Global). part.items ≡ []) parts key d (omega arith) empty)
 
 module _ (h : List Keyed) (i count : ℕ) (d0 : Keyed) (below : i < length h) (parts : List (Vec Operation Global)) (so_far : SplitSoFar h i count parts) where
   abbrev next : Keyed

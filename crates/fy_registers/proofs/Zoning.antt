@@ -16,7 +16,7 @@ use Rattle.fy_registers.specs.declared.zone.Zone.{Zone}
 use Rattle.fy_registers.specs.Linear.{value_in, value_of, HasEnded, IsHistory, IsWrittenOnce, IsLinearizable}
 use Rattle.fy_registers.specs.Evidence.{IsReadOf, IsWriteOf, Shows}
 use Rattle.fy_registers.specs.Zones.{AreEnded, IsSeen, AreSeen, IsZone, IsZoneOf, IsNoZoneOf, AreZones}
-use Rattle.fy_registers.proofs.Lists.{contains_none, contains_here, from_filter}
+use Rattle.fy_registers.proofs.Lists.{contains_here, from_filter}
 use Rattle.fy_registers.proofs.Refuting.{evidence_refutes}
 use Rattle.fy_registers.proofs.Histories.{ends_late}
 
@@ -99,14 +99,6 @@ pub record ZonesSoFar (h : List Operation) (table : List Seen) (i : ℕ) (zones 
   pub all : (v : ℕ) (d : Seen) (e : Ended) → v < i → (get_or table v d).ended ≡ Some e → (z : Zone) × Contains zones z × (z.value ≡ v)
   pub apart : (v : ℕ) → count_by (λ z. z.value == v) zones ≤ 1
   pub below : (z : Zone) → Contains zones z → z.value < i
-
-pub zones_begin : (h : List Operation) (table : List Seen) → ZonesSoFar h table 0 []
-zones_begin h table = record {
-  each = λ z among. absurd (contains_none z among);
-  all = λ v d e less is. absurd (omega arith);
-  apart = λ v. omega arith;
-  below = λ z among. absurd (contains_none z among);
-}
 
 none_of : (zones : List Zone) (v : ℕ) → ((z : Zone) → Contains zones z → z.value ≡ v → ⊥) → count_by (λ z. z.value == v) zones ≡ 0
 none_of zones v never = go (filter (λ z. z.value == v) zones) refl

@@ -1,8 +1,9 @@
 //! The judge of a history of one register.
 //!
 //! Each value has one write, so in an order the operations of a value stand together. Value v comes
-//! before value w wherever an operation of v ended before one of w began. There is an order exactly
-//! where no two values come before each other: then the values may stand as their zones begin.
+//! before value w wherever an operation of v ended before one of w began. Where no read is wrong by
+//! itself, there is an order exactly where no two values come before each other: then the values may
+//! stand as their zones begin.
 
 ghost use Rattle.std.specs.Prelude.{◌≡◌, ◌<◌, ◌≤◌, ℕ, IfOk, IfSome, IfNone, length, vec_len, Contains, All, AllPairs};
 ghost use Rattle.std.specs.List.Sorted.{IsNonDecreasingBy};
