@@ -134,6 +134,10 @@ bin/faultyard-lossy: $(wildcard tools/lossy/*.[ch])
 try-disks:
 	tests/disk/run --long
 
+## judges a thousand runs of `faultyard-nemesis` in virtual time, each on a store with some fault
+nemesis-seeds:
+	tests/nemesis/run --seeds 1000 bin/faultyard seeds
+
 ## aborts a hundred runs of `faultyard-nemesis` at random moments: no process may be left
 nemesis-aborts:
 	tests/nemesis/run --aborts 100 bin/faultyard real.Trees.test_aborted_runs_leave_nothing

@@ -11,7 +11,7 @@ import sys
 import tempfile
 import unittest
 from collections.abc import Callable
-from contextlib import redirect_stderr
+from contextlib import ExitStack, redirect_stderr
 from dataclasses import dataclass
 from pathlib import Path
 from typing import Any
@@ -82,8 +82,17 @@ class Ran:
         return {name: int(count) for count, name in (it.split() for it in found[2].split(", "))}
 
 
-def ran(toy: Toy, out: Path, *words: object, during: Callable[[], object] | None = None) -> Ran:
-    """A run with these words, and `during` called in its loop at the beginning."""
+def ran(
+    toy: Toy,
+    out: Path,
+    *words: object,
+    during: Callable[[], object] | None = None,
+    is_shown: bool = True,
+) -> Ran:
+    """A run with these words, and `during` called in its loop at the beginning.
+
+    Where it isn't shown no picture is drawn, and no program checks the audit: both take their time.
+    """
     told, said = list[str](), io.StringIO()
 
     async def chaos(whole: Any) -> int:
@@ -94,9 +103,15 @@ def ran(toy: Toy, out: Path, *words: object, during: Callable[[], object] | None
     given = [str(it) for it in (*words, "--out", out)]
     if not words or not str(words[0]).endswith(".toml"):
         given = [str(CLUSTER), str(HOOKS), *given]
-    with patch("nemesis.main.say", told.append), patch("nemesis.store.say", told.append):
-        with redirect_stderr(said):
-            status = main.ended(main.parsed(given), toy, lambda it: clock.run(chaos(it)))
+    with ExitStack() as patched:
+        for name in ("nemesis.main.say", "nemesis.store.say"):
+            patched.enter_context(patch(name, told.append))
+        for name in () if is_shown else ("nemesis.main.draw", "faultyard.show"):
+            patched.enter_context(patch(name, return_value="<svg/>"))
+        if not is_shown:
+            patched.enter_context(patch("faultyard.check", lambda _, audit: audit.count('"at":')))
+        patched.enter_context(redirect_stderr(said))
+        status = main.ended(main.parsed(given), toy, lambda it: clock.run(chaos(it)))
     return Ran(status, "".join(f"{it}\n" for it in told) + said.getvalue(), out, toy)
 
 

@@ -5,7 +5,7 @@
 It is the machine of a run (tools/nemesis/machine.py): the hooks that the tool calls are coroutines
 here, and what it kills is cancelled. Each record goes to two members, and is acknowledged by both.
 What a member has stands in the log of its folder, as `KEY VALUE` lines, so the test reads the truth
-there, and in `Toy.acked` what was acknowledged. Everything takes some time of the loop, drawn from
+there. `Toy` notes what was acknowledged, and what `check`, `read` and `salvage` told. Everything takes some time of the loop, drawn from
 the seed; the same seed gives the same run.
 
 **A new mode** is a subclass of `Mode` that overrides the points at which it differs. Each point
@@ -28,7 +28,7 @@ from contextlib import asynccontextmanager, suppress
 from functools import partial
 from pathlib import Path
 from random import Random
-from typing import IO, Any, TypeVar
+from typing import IO, Any, NamedTuple, TypeVar
 
 from nemesis.machine import Machine
 
@@ -39,6 +39,15 @@ KILLED = 128 + signal.SIGTERM  # the status of what a keeper ended
 LIMIT = 1 << 16  # bytes of a line, as asyncio has it for commands
 PORT = 20000  # nobody listens there
 Pair = tuple[str, str]
+
+
+class Answer(NamedTuple):
+    """What `check` told of a record."""
+
+    began: float  # when it was asked
+    number: int  # for which member
+    key: str
+    told: str
 
 
 class Mode:
@@ -475,6 +484,10 @@ class Toy(Machine):
         self.members: dict[int, Member] = {}  # those that run
         self.filling: set[int] = set()  # those that began empty, and aren't whole since
         self.acked: dict[str, str] = {}  # what `write` said ok of
+        self.ok_at: dict[str, float] = {}  # when it did
+        self.checked: list[Answer] = []  # what `check` told
+        self.read_last: list[Pair] | None = None  # what `read` told last
+        self.salvaged: dict[int, list[Pair]] = {}  # what `salvage` told of each member
         self.calls: list[str] = []  # each call of a hook, in order
 
     # What is so.
@@ -633,7 +646,7 @@ class Toy(Machine):
             for mode in self.modes:
                 answers = [it for answer in answers for it in mode.answers(key, answer)]
             if answers and answers[0].startswith("ok"):
-                self.acked[key] = value
+                self.acked[key], self.ok_at[key] = value, now()
             for answer in answers:
                 call.print(answer)
         return 0
@@ -652,15 +665,16 @@ class Toy(Machine):
     async def check(self, call: Call) -> int:
         async for line in call.lines():
             number, key = line.split()
-            asked = int(number)
+            asked, began = int(number), now()
             for mode in self.modes:
                 asked = mode.asks(asked) % 3
             if seconds := sum(mode.takes() for mode in self.modes):
                 await asyncio.sleep(seconds)
-            try:
-                call.print(await self.get(asked, key))
-            except OSError:
-                call.print("?")
+            told = "?"
+            with suppress(OSError):
+                told = await self.get(asked, key)
+            self.checked.append(Answer(began, int(number), key, told))
+            call.print(told)
         return 0
 
     async def read(self, call: Call) -> int:
@@ -669,6 +683,7 @@ class Toy(Machine):
         found = [*(await self.everything(call.able)).items()]
         for mode in self.modes:
             found = mode.prints(found)
+        self.read_last = found
         for pair in found:
             call.print(" ".join(pair))
         return 0
@@ -695,7 +710,9 @@ class Toy(Machine):
         return 0
 
     async def salvage(self, call: Call) -> int:
-        for key, value in self.log(Path(call.env["FY_COPY"], "log")).items():
+        found = [*self.log(Path(call.env["FY_COPY"], "log")).items()]
+        self.salvaged[call.number] = found
+        for key, value in found:
             call.print(f"{key} {value}")
         return 0
 
@@ -724,6 +741,16 @@ async def hangs(call: Call) -> int:
 async def throws(call: Call) -> int:
     """It ends as Python does by a fault."""
     raise KeyError("revision")
+
+
+def at_first(hook: Hook, times: int, later: Hook) -> Hook:
+    """One hook so many times, and then another."""
+    count = itertools.count()
+
+    async def first(call: Call) -> int:
+        return await (hook if next(count) < times else later)(call)
+
+    return first
 
 
 def ends(status: int, *said: str, prints: Sequence[str] = ()) -> Hook:
