@@ -40,12 +40,14 @@ def drawn(seed: int) -> tuple[Toy, list[object]]:
     """A store, and the words of a run."""
     dice = Random(f"seeds {seed}")
     modes = [make(dice) for make in dice.sample(MODES, dice.choice([0, 0, 1, 1, 1, 2]))]
-    hooks = [it for it in ("check", "salvage", "join") if dice.random() < 0.7]
-    toy = Toy(seed, *modes, listed=" ".join([BARE, *hooks]), pace=0.3, boots=dice.uniform(0.1, 1.0))
+    some = {"check": 0.8, "salvage": 0.6, "join": 0.5}
+    listed = " ".join([BARE, *(name for name, part in some.items() if dice.random() < part)])
+    toy = Toy(seed, *modes, listed=listed, pace=0.2, boots=dice.uniform(0.1, 1.0))
     for name in ("read", "whole", "ready", "check", "salvage"):
         if dice.random() < 0.1:
             wrong = dice.choice([ends(1), throws, hangs])
-            toy.own[name] = at_first(wrong, dice.randint(1, 2), getattr(toy, name))
+            times = 1000 if name == "read" else dice.randint(1, 2)  # it never answers, at the end
+            toy.own[name] = at_first(wrong, times, getattr(toy, name))
     words = ["--seed", seed, "--plan", dice.choice(PLANS), "--seconds", dice.randint(3, 8)]
     words += ["--readers", dice.randint(0, 2), "--writers", dice.randint(1, 3), "--quiet"]
     return toy, words + (["--unguarded"] if dice.random() < 0.2 else [])
@@ -134,7 +136,7 @@ class Seeds(Case):
         self.assertEqual({name: it.counts[name] for name in found}, counted(found))
         self.assertNotIn("tell us", it.told)
         is_honest = all(isinstance(mode, HONEST) for mode in toy.modes)
-        if is_honest and "--unguarded" not in words:
+        if is_honest and toy.read_last is not None and "--unguarded" not in words:
             self.assertEqual((it.status, found), (0, {}), it.told)
         self.remove(it)
 
