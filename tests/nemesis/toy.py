@@ -5,8 +5,8 @@
 It is the machine of a run (tools/nemesis/machine.py): the hooks that the tool calls are coroutines
 here, and what it kills is cancelled. Each record goes to two members, and is acknowledged by both.
 What a member has stands in the log of its folder, as `KEY VALUE` lines, so the test reads the truth
-there. `Toy` notes what was acknowledged, and what `check`, `read` and `salvage` told. Everything takes some time of the loop, drawn from
-the seed; the same seed gives the same run.
+there. `Toy` notes what was acknowledged, and what `check`, `read` and `salvage` told. Everything
+takes some time of the loop, drawn from the seed; the same seed gives the same run.
 
 **A new mode** is a subclass of `Mode` that overrides the points at which it differs. Each point
 says when it is asked. Where none fits, add one: a method of `Mode` that does nothing, and the one
