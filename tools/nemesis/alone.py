@@ -5,6 +5,7 @@ import subprocess
 import sys
 from argparse import Namespace
 
+OWN = "own"  # the disks whose power the hook `power` cuts
 MARK = "FAULTYARD_NEMESIS_ALONE"  # is in the environment of a run that is below `unshare`
 
 
@@ -15,16 +16,26 @@ def lossy_program() -> str:
 
 def unshare(words: Namespace) -> list[str]:
     """Namespaces of the run's own, with which its mounts and interfaces go."""
-    net = ["--net"] if words.net else []
+    net = ["--net"] if has_net(words) else []
     user = ["--user", "--map-current-user", "--keep-caps"] if os.geteuid() else []
     return ["unshare", *user, "--mount", *net]
+
+
+def has_net(words: Namespace) -> bool:
+    """Whether the run has a network of its own."""
+    return words.net and not words.parts
+
+
+def is_wanted(words: Namespace) -> bool:
+    """Whether a run has disks or a network of its own."""
+    return words.disks not in (None, OWN) or has_net(words)
 
 
 def missing(words: Namespace) -> str | None:
     """What the machine lacks, if it does."""
     return (
         missing_for_disks(words.disks)
-        or (missing_programs("--net", "ip", "nft", "nsenter") if words.net else None)
+        or (missing_programs("--net", "ip", "nft", "nsenter") if has_net(words) else None)
         or missing_namespaces(words)
     )
 
@@ -34,7 +45,7 @@ def missing_for_disks(kind: str | None) -> str | None:
         if not os.access(lossy_program(), os.X_OK):
             return "--disks lossy needs the program faultyard-lossy (make lossy)"
         return missing_device("--disks lossy", "/dev/fuse")
-    if not kind:
+    if kind in (None, OWN):
         return None
     if os.geteuid():
         return f"--disks {kind} needs to be root; --disks lossy doesn't"

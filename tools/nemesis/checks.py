@@ -149,6 +149,8 @@ class HookCheck:
             async with self.run.held_down(number):
                 if "check" in self.hooks.names and before:
                     await self._ask_the_dead(number, next(iter(before)))
+                if not await self.run.elsewhere.fetched(number):
+                    raise wrong(f"{self.hooks.ends[number]}; hooks.log may say why")
                 self.copies[number] = (await self.hooks.copy(number), before)
             await self.run.calm()
 

@@ -16,17 +16,20 @@ from faultyard.ledger import Ledger
 from . import HOOK, USAGE, Fault
 from .hook_log import HookLog
 from .machine import Machine
+from .places import Place
 
 NEEDED = {"start", "whole", "write", "read"}
 KNOWN = NEEDED | {"hooks", "setup", "ready", "join", "leave", "elect", "pause", "resume"}
 KNOWN |= {"check", "salvage"}
+# These act where the tool can't.
+KNOWN |= {"kill", "empty", "fetch", "power", "cut", "mend"}
 # These are no hooks, but promises: no answer of check lags; records stand in files as written.
 KNOWN |= {"fresh", "plain"}
 # Some copy: they have six times as long.
-SLOW = {"hooks", "setup", "join", "elect", "read", "salvage"}
+SLOW = {"hooks", "setup", "join", "elect", "read", "salvage", "fetch"}
 # One without the other is wrong.
 NEEDS = {"pause": "resume", "resume": "pause", "fresh": "check", "plain": "salvage"}
-PORTS = 4  # for each process
+NEEDS |= {"cut": "mend", "mend": "cut", "kill": "ready"}
 SAID = 160  # characters of what a hook said that are told
 SOURCES = str(Path(faultyard.__file__).parents[1])
 
@@ -50,7 +53,7 @@ class Hooks:
         file: ClusterFile,
         ledger: Ledger,
         machine: Machine,
-        hosts: Sequence[str] = (),
+        places: Sequence[Place],
     ) -> None:
         self.names = {"hooks"}  # which there are
         self.ends: dict[int | str, End] = {}  # of the last hook of each process, and of the others
@@ -60,17 +63,7 @@ class Hooks:
         self.limit: float = words.hook_timeout
         self._zones = [place[Key.ZONE] for place in file.places]
         self._log = HookLog(words.out / "hooks.log", ledger.now)
-        self._env = os.environ | {
-            "FY_DIR": str(words.out),
-            "FY_PORT": str(machine.free_ports(PORTS * len(file.places))),
-            "FY_COUNT": str(len(file.places)),
-            "FY_NAMES": " ".join(place[Key.PROCESS] for place in file.places),
-            "FY_ZONES": " ".join(self._zones),
-            "FY_HOSTS": " ".join(hosts or ["127.0.0.1"] * len(file.places)),
-            # A hook in Python may import faultyard_hooks, and leaves nothing beside it.
-            "PYTHONDONTWRITEBYTECODE": "1",
-            "PYTHONPATH": ":".join(filter(None, [SOURCES, os.environ.get("PYTHONPATH")])),
-        }
+        self._env = described(file, places) | {"FY_DIR": str(words.out)}
 
     def said_by_write(self) -> tuple[str, int]:
         """What `write` wrote most often to standard error, and how often."""
@@ -173,6 +166,21 @@ class Hooks:
     def _variables(self, *numbers: int) -> dict[str, str]:
         env = self._env | {"FY_ABLE": " ".join(map(str, sorted(self._ledger.able)))}
         return env | {"FY_ZONE": self._zones[numbers[0]]} if numbers else env
+
+
+def described(file: ClusterFile, places: Sequence[Place]) -> dict[str, str]:
+    """What each hook is told of the processes."""
+    return os.environ | {
+        "FY_COUNT": str(len(file.places)),
+        "FY_NAMES": " ".join(place[Key.PROCESS] for place in file.places),
+        "FY_ZONES": " ".join(place[Key.ZONE] for place in file.places),
+        "FY_HOSTS": " ".join(place.host for place in places),
+        "FY_PORT": str(places[0].port),
+        "FY_PORTS": " ".join(str(place.port) for place in places),
+        # A hook in Python may import faultyard_hooks, and leaves nothing beside it.
+        "PYTHONDONTWRITEBYTECODE": "1",
+        "PYTHONPATH": ":".join(filter(None, [SOURCES, os.environ.get("PYTHONPATH")])),
+    }
 
 
 def called(name: str, numbers: Sequence[int]) -> str:

@@ -23,9 +23,11 @@ from . import __doc__ as about
 from .edn import Convert
 from .evidence import told_cases
 from .disks import KINDS as KINDS_OF_DISKS
+from .elsewhere import listed
 from .machine import Machine
 from .net import WAYS
 from .orders import KINDS
+from .places import places
 from .picture import draw
 from .run import Run
 from .summary import MILD, closing, tested_little
@@ -76,7 +78,7 @@ def parsed(given: Sequence[str] | None = None) -> argparse.Namespace:
     text = f"between the orders of mixed ({mixed}), blackout ({blackout}), partition ({partition})"
     add("--pauses", type=numbers, metavar="SECONDS", help=text)
     text = "a disk for each process, whose power a Reboot cuts"
-    add("--disks", choices=KINDS_OF_DISKS, help=text)
+    add("--disks", choices=(*KINDS_OF_DISKS, alone.OWN), help=text)
     text = "what a power cut keeps of what was unsynced: nothing, or what is drawn (draw)"
     add("--tear", choices=("none", "draw"), default="draw", help=text)
     add("--deaf-disks", action="store_true", help="syncs do nothing: a control that has to lose")
@@ -84,6 +86,8 @@ def parsed(given: Sequence[str] | None = None) -> argparse.Namespace:
     add("--net", action="store_true", help=text)
     text = "what a Clog loses with --net: what the process sends, what it gets, or both (both)"
     add("--clog", choices=WAYS, default="both", help=text)
+    text = "where each process is reached: HOST:PORT,.. or a file of lines NAME HOST:PORT"
+    add("--at", type=places, metavar="PLACES", help=text)
     add("--replay", type=Path, metavar="EVENTS", help="do the orders of an events.jsonl again")
     add("--unguarded", action="store_true", help="do what was ordered, whatever the guard says")
     add("--check-hooks", action="store_true", help="have each hook called on a calm cluster")
@@ -125,7 +129,7 @@ def parsed(given: Sequence[str] | None = None) -> argparse.Namespace:
         it.error(f"{words.out} is not empty")
     if idle := without_effect(words):
         it.error(idle)
-    words.hooks = words.hooks.resolve()
+    words.hooks, words.parts = words.hooks.resolve(), False
     return words
 
 
@@ -171,6 +175,7 @@ async def chaos(words: argparse.Namespace, machine: Machine) -> int:
             run.history.flush()
     status = report(run)
     if status == NONE_LOST and not words.keep:
+        await run.elsewhere.cleared(len(run.names))
         for process in range(len(run.names)):
             shutil.rmtree(words.out / str(process), ignore_errors=True)
             if run.disks:
@@ -181,7 +186,8 @@ async def chaos(words: argparse.Namespace, machine: Machine) -> int:
 def main() -> int:
     """Does what the words say; all that it started ends before this returns."""
     words = parsed()
-    if (words.disks or words.net) and alone.MARK not in os.environ:
+    words.parts = words.net and "cut" in listed(words)
+    if alone.is_wanted(words) and alone.MARK not in os.environ:
         if lack := alone.missing(words):
             print(f"faultyard-nemesis: {lack}", file=sys.stderr)
             return USAGE

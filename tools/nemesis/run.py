@@ -2,7 +2,8 @@
 import asyncio
 from argparse import Namespace
 from collections import Counter
-from contextlib import suppress
+from collections.abc import AsyncIterator
+from contextlib import asynccontextmanager, suppress
 from dataclasses import replace
 from random import Random
 from typing import Any
@@ -53,11 +54,11 @@ class Run(Store):
 
     async def whole(self) -> None:
         """The run from its first process to what could be read."""
-        await self.hooks.learn()
+        await self.learn()
         orders = Orders(self.words, self.file, self.fault)
         try:
             await self.lay_out()
-            async with self.hooks.set_up(), asyncio.TaskGroup() as tasks:
+            async with self.hooks.set_up(), self._ending(), asyncio.TaskGroup() as tasks:
                 await self.begin(tasks)
                 self.ledger.begin()
                 self.note("ready")
@@ -74,6 +75,18 @@ class Run(Store):
         finally:
             if self.disks:
                 await self.disks.settle()
+
+    @asynccontextmanager
+    async def _ending(self) -> AsyncIterator[None]:
+        """Whatever ends the block, nothing of the processes runs then, or it is said who may."""
+        where = self.elsewhere
+        try:
+            async with where.ending(len(self.names)):
+                yield
+        finally:
+            for number in sorted(where.survivors):
+                end = self.hooks.ends.get(number, "no hook has answered")
+                self.notes.append(f"{self.names[number]} may still run where it is: {end}")
 
     async def _chaos(self, orders: list[Timed]) -> None:
         """Writes and orders, until all that was clogged is let go again."""
@@ -190,7 +203,8 @@ class Run(Store):
     async def _looked_through(self, left: Left) -> Left:
         """With what stands in the files of those whose `salvage` gave nothing, if it would show."""
         records, found = {key: it.value for key, it in self.ledger.records.items()}, {}
-        unknown = [number for number in left.disks if not left.is_told(number)]
+        unknown = set(left.disks) - self.elsewhere.unfetched
+        unknown = sorted(number for number in unknown if not left.is_told(number))
         for number in unknown if "plain" in self.hooks.names else ():
             try:
                 folder = self.words.out / str(number)
@@ -204,8 +218,12 @@ class Run(Store):
 
     async def _disk(self, number: int) -> Pairs | None:
         """What the folder of a process has, which doesn't run."""
-        if number in self.gone or number in self.emptied:
+        if number in self.gone | self.emptied and self.elsewhere.empties():
             return []
+        if not await self.elsewhere.fetched(number):
+            end = self.hooks.ends[number]
+            self.notes.append(f"the disk of {self.names[number]} is unknown: {end}")
+            return None
         text = await self.hooks.salvage(number, await self.hooks.copy(number))
         try:
             if text is not None:

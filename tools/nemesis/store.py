@@ -16,12 +16,14 @@ from faultyard import ClusterFile, Guard, Kind
 from faultyard.harness import Harness
 from faultyard.plans import Order
 
-from . import HOOK, Fault, clock, clock_ns, say
+from . import HOOK, USAGE, Fault, alone, clock, clock_ns, say
 from .crashes import Crashes, end_of_log, in_words
 from .disks import Cut, disks_of
+from .elsewhere import OWN, Elsewhere, Life, Partitions, refused
 from .hooks import End, Hooks
 from .machine import Machine
 from .net import Net
+from .places import reached
 
 DEAF = Path(__file__).with_name("deaf.py")
 AGAIN = 0.1  # seconds until a hook that said no is asked again
@@ -39,13 +41,17 @@ class Store(Harness):
         more = {"unguarded": words.unguarded, "show": show, "clock": clock_ns}
         super().__init__(guard, file, events, **more)
         count = len(file.places)
-        self.net = Net(words.out, count, words.clog) if words.net else None
-        self.disks = disks_of(words, count) if words.disks else None
+        self.net: Net | Partitions | None = None
+        if alone.has_net(words):
+            self.net = Net(words.out, count, words.clog)
+        self.disks = disks_of(words, count) if words.disks not in (None, OWN) else None
         self.cuts: list[tuple[str, Cut]] = []  # whose power was cut, and what that left
         self.words, self._machine = words, machine
         hosts = self.net.hosts if self.net else ()
-        self.hooks = Hooks(words, file, self.ledger, machine, hosts)
+        places = reached(words.at, self.names) if words.at else machine.places(count, hosts)
+        self.hooks = Hooks(words, file, self.ledger, machine, places)
         self.hooks.before = self._before
+        self.elsewhere = Elsewhere(self.hooks)
         self._keeping: dict[int, asyncio.Task[None]] = {}  # each brings a process back
         self._started: dict[int, Process] = {}
         self._began: dict[int, float] = {}  # when each was started last
@@ -62,6 +68,15 @@ class Store(Harness):
         self.idle: set[int] = set()  # those whose last join left the folder empty
         self._elected = 0  # how many of the losses an election has seen
         self._joining, self._alone_until = 0, 0.0
+
+    async def learn(self) -> None:
+        """Asks which hooks there are, and whether they do for the words of this run."""
+        await self.hooks.learn()
+        names = self.hooks.names
+        if why := refused(self.words, names, self.file.actors[self.fault].kinds):
+            raise Fault(USAGE, why)
+        if self.words.net and "cut" in names:
+            self.net = Partitions(self.elsewhere, len(self.names))
 
     async def lay_out(self) -> None:
         """Gives each process its host and its disk, where these were asked for."""
@@ -129,20 +144,24 @@ class Store(Harness):
         """Ends all; nothing is told to the guard then."""
         async with self.turn:
             await cancelled([self._electing, *self._keeping.values()])
+            await self.elsewhere.end()
 
     async def strike(self, processes: Sequence[int], kind: Kind) -> None:
-        is_cut = self.disks is not None and kind is Kind.REBOOT
+        is_cut = self.words.disks is not None and kind is Kind.REBOOT
         await self._take_down(processes, kind.empties_disk, is_cut)
 
     async def _take_down(
         self, processes: Sequence[int], emptied: bool, is_cut: bool = False
     ) -> None:
         """Ends them all at once, with the hooks that work for them, to be brought back."""
-        if is_cut:
+        if is_cut and self.disks:
             self._freeze(processes)
         await cancelled([self._keeping[number] for number in processes])
+        await self.elsewhere.struck(processes, is_cut)
         if is_cut:
             await self._cut(processes)
+        await self.elsewhere.silent(set(processes) - self.clogged)
+        self._note_killed(processes)
         for number in processes:
             self.hooks.ends.pop(number, None)
             self.joined.pop(number, None)
@@ -159,6 +178,7 @@ class Store(Harness):
         """Nothing of a process runs until the block ends."""
         async with self.turn:
             await cancelled([self._keeping[number]])
+            await self.elsewhere.struck([number], False)
             self.hooks.ends.pop(number, None)
             self.tell_ended(number, "restart")
         try:
@@ -176,15 +196,15 @@ class Store(Harness):
 
     async def _cut(self, processes: Sequence[int]) -> None:
         """Cuts the power of their disks: what the order's tear doesn't keep is lost."""
-        assert self.disks and self.order
-        found = await self.disks.cut(processes, self.order.tear)
+        assert self.order
+        found = await self.disks.cut(processes, self.order.tear) if self.disks else Cut()
         self.cuts.append((self.order.value, found))
         self.note("cut", processes=list(processes), tear=self.order.tear, **found._asdict())
         self.show(f"power cut of {self.order.value}: {found}")
 
     def power(self) -> list[str]:
         """What power cuts left, as lines of the summary."""
-        if not self.disks:
+        if not self.words.disks:
             return []
         lines = [f"{len(self.cuts)} power cuts: {sum((it for _, it in self.cuts), Cut(0, 0))}"]
         if self.words.deaf_disks:
@@ -197,6 +217,12 @@ class Store(Harness):
             await self.disks.replace(number)
         else:
             empty(self.words.out / str(number))
+        await self.elsewhere.done("empty", number)
+
+    def _note_killed(self, processes: Sequence[int]) -> None:
+        """Until then what was struck may have run, and may have acknowledged."""
+        if self.elsewhere.has("kill"):
+            self.note("killed", processes=list(processes))
 
     def _before(self, number: int) -> list[str]:
         """The words before `start`: where it runs, and what its syncs do."""
@@ -212,6 +238,8 @@ class Store(Harness):
             process = self._started.get(number)
             if self.net:
                 await self.net.clog(number, is_clogged)
+            elif self.elsewhere.has("kill"):
+                await self.elsewhere.done(hook, number)
             elif process is None or process.returncode is not None:
                 await self.hooks.call(hook, number)
             elif hook not in self.hooks.names:
@@ -253,7 +281,8 @@ class Store(Harness):
                 self._began[number] = clock()
                 async with self.hooks.running("start", number, **files) as process:
                     self._started[number] = process
-                    while process.returncode is None:
+                    life = Life(self.elsewhere, number)
+                    while await life.goes_on(process.returncode, number in self.up):
                         await self._ask_after(number, process)
                         await asyncio.sleep(AGAIN)
             self._end_by_itself(number, process.returncode, begin)
@@ -308,14 +337,14 @@ class Store(Harness):
         if number not in self.up:
             if "ready" not in self.hooks.names:
                 await asyncio.sleep(LIVES)
-            if await self.hooks.says("ready", number) and process.returncode is None:
+            if await self.hooks.says("ready", number) and self.elsewhere.runs(process):
                 self._ended.pop(number, None)
                 self.starts.append(clock() - self._began[number])
                 self.tell_up(number)
         elif number in self.ledger.destroyed and self._is_elected():
             now = self.ledger.now()
             whole = await self.hooks.says("whole", number, self.ledger.due(number))
-            if whole and process.returncode is None and self._is_elected():
+            if whole and self.elsewhere.runs(process) and self._is_elected():
                 self.tell_healed(number)
             elif not whole and self.hooks.ends[number].status is not None:  # it didn't hang
                 self._note_no(number, now)

@@ -30,6 +30,7 @@ Answer = TypeVar("Answer")
 MORE = {"?": "?"}  # among what `salvage` returns: there may be more, which it couldn't read
 _user: Dict[str, Any] = {}  # as whom commands run, if not as who runs the hook
 HOOKS = "setup start ready join leave elect pause resume whole write check read salvage".split()
+HOOKS += "kill empty fetch power cut mend".split()
 # What stands in a module of its own.
 ELSEWHERE = {
     "Amqp": "amqp",
@@ -89,7 +90,8 @@ ABLE = [int(number) for number in _told("FY_ABLE", "").split()]
 
 def port(n: int, which: int = 0) -> int:
     """One of the four ports of a process."""
-    return int(_told("FY_PORT", "0")) + 4 * n + which
+    firsts = _told("FY_PORTS", "").split()
+    return int(firsts[n] if firsts else int(_told("FY_PORT", "0")) + 4 * n) + which
 
 
 def at(n: int, which: int = 0) -> str:
