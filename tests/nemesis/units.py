@@ -17,6 +17,7 @@ from faultyard.enums import Kind
 from nemesis import HOOK, Fault, checks, summary
 from nemesis.clients import Clients
 from nemesis.crashes import Crashes
+from nemesis.elsewhere import Elsewhere
 from nemesis.history import History, Operation
 from nemesis.hook_log import HookLog
 from nemesis.main import rising
@@ -596,7 +597,9 @@ class Strikes(unittest.TestCase):
     async def begin(self):
         self.store = store = Store.__new__(Store)
         store.disks, store.emptied, store.joined, self.begun = None, set(), {}, []
-        store.hooks, store.not_whole = unittest.mock.Mock(ends={}), {}
+        store.hooks, store.not_whole = unittest.mock.Mock(ends={}, names=set()), {}
+        store.elsewhere, store.clogged = Elsewhere(store.hooks), set()
+        store.words = unittest.mock.Mock(disks=None)
         store.tasks = asyncio.get_running_loop()
         store._keeping = {it: asyncio.create_task(asyncio.sleep(60)) for it in range(3)}
 

@@ -148,7 +148,8 @@ def listed(words: Namespace) -> set[str]:
     """The hooks that there are, before the run knows where it is; none where they aren't told."""
     try:
         file, limit = ClusterFile.read(words.config), words.hook_timeout * 6
-        env = described(file, [Place("127.0.0.1", 0)] * len(file.places)) | {"FY_DIR": ""}
+        places = [Place("127.0.0.1", 0)] * len(file.places)
+        env = described(file, places, words.on) | {"FY_DIR": ""}
         told = subprocess.run(
             [words.hooks, "hooks"],
             capture_output=True,

@@ -63,7 +63,7 @@ class Hooks:
         self.limit: float = words.hook_timeout
         self._zones = [place[Key.ZONE] for place in file.places]
         self._log = HookLog(words.out / "hooks.log", ledger.now)
-        self._env = described(file, places) | {"FY_DIR": str(words.out)}
+        self._env = described(file, places, words.on) | {"FY_DIR": str(words.out)}
 
     def said_by_write(self) -> tuple[str, int]:
         """What `write` wrote most often to standard error, and how often."""
@@ -168,13 +168,14 @@ class Hooks:
         return env | {"FY_ZONE": self._zones[numbers[0]]} if numbers else env
 
 
-def described(file: ClusterFile, places: Sequence[Place]) -> dict[str, str]:
+def described(file: ClusterFile, places: Sequence[Place], on: str | None) -> dict[str, str]:
     """What each hook is told of the processes."""
     return os.environ | {
         "FY_COUNT": str(len(file.places)),
         "FY_NAMES": " ".join(place[Key.PROCESS] for place in file.places),
         "FY_ZONES": " ".join(place[Key.ZONE] for place in file.places),
         "FY_HOSTS": " ".join(place.host for place in places),
+        "FY_ON": on or "",
         "FY_PORT": str(places[0].port),
         "FY_PORTS": " ".join(str(place.port) for place in places),
         # A hook in Python may import faultyard_hooks, and leaves nothing beside it.

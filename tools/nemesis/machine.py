@@ -4,7 +4,6 @@ A test has a machine of its own, whose commands are coroutines.
 """
 import socket
 from asyncio.subprocess import Process
-from collections.abc import Sequence
 from contextlib import AbstractAsyncContextManager, suppress
 from random import SystemRandom
 from typing import Any
@@ -12,7 +11,6 @@ from typing import Any
 import keeper
 
 from . import TOOL, Fault
-from .places import PORTS, Place
 
 
 class Machine:
@@ -29,12 +27,6 @@ class Machine:
     def signal_below(self, pid: int, number: int) -> None:
         """Sends a signal to all that a command has started."""
         keeper.signal_below(pid, number)
-
-    def places(self, count: int, hosts: Sequence[str] = ()) -> list[Place]:
-        """Free ports for each process, on this machine or on hosts that the tool has made."""
-        first = self.free_ports(PORTS * count)
-        ports = range(first, first + PORTS * count, PORTS)
-        return [Place(host, port) for host, port in zip(hosts or ["127.0.0.1"] * count, ports)]
 
     def free_ports(self, count: int) -> int:
         """The first of a block of loopback ports, which is held against other runs."""

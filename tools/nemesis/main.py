@@ -88,6 +88,8 @@ def parsed(given: Sequence[str] | None = None) -> argparse.Namespace:
     add("--clog", choices=WAYS, default="both", help=text)
     text = "where each process is reached: HOST:PORT,.. or a file of lines NAME HOST:PORT"
     add("--at", type=places, metavar="PLACES", help=text)
+    text = "the hosts on which the processes run, by ssh and a hook in Python: ssh:HOST,.."
+    add("--on", metavar="WHERE", help=text)
     add("--replay", type=Path, metavar="EVENTS", help="do the orders of an events.jsonl again")
     add("--unguarded", action="store_true", help="do what was ordered, whatever the guard says")
     add("--check-hooks", action="store_true", help="have each hook called on a calm cluster")

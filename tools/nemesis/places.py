@@ -1,8 +1,11 @@
 """Where each process is reached, if its place isn't this tool's to choose."""
+import subprocess
 from argparse import ArgumentTypeError
 from collections.abc import Sequence
 from pathlib import Path
 from typing import NamedTuple
+
+from faultyard_hooks import driver
 
 from . import USAGE, Fault
 
@@ -48,5 +51,20 @@ def reached(given: dict[str, Place] | list[Place], names: Sequence[str]) -> list
         given = [given[name] for name in names]
     if len(given) != len(names):
         raise Fault(USAGE, f"--at has {len(given)} places for {len(names)} processes")
-    ports = range(BASE, BASE + PORTS * len(names), PORTS)
-    return [Place(it.host, it.port or port) for it, port in zip(given, ports)]
+    row = in_a_row([it.host for it in given], BASE)
+    return [Place(it.host, it.port or other.port) for it, other in zip(given, row)]
+
+
+def addresses(on: str | None) -> list[Place]:
+    """The addresses of the hosts of `--on`, by its driver."""
+    if not on:
+        return []
+    try:
+        return [Place(host) for host in driver(on).addresses()]
+    except (OSError, subprocess.CalledProcessError) as fault:
+        raise Fault(USAGE, f"--on {on}: {fault}") from None
+
+
+def in_a_row(hosts: Sequence[str], first: int) -> list[Place]:
+    """Hosts whose ports follow each other."""
+    return [Place(host, first + PORTS * number) for number, host in enumerate(hosts)]

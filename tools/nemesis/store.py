@@ -23,7 +23,7 @@ from .elsewhere import OWN, Elsewhere, Life, Partitions, refused
 from .hooks import End, Hooks
 from .machine import Machine
 from .net import Net
-from .places import reached
+from .places import PORTS, Place, addresses, in_a_row, reached
 
 DEAF = Path(__file__).with_name("deaf.py")
 AGAIN = 0.1  # seconds until a hook that said no is asked again
@@ -47,9 +47,7 @@ class Store(Harness):
         self.disks = disks_of(words, count) if words.disks not in (None, OWN) else None
         self.cuts: list[tuple[str, Cut]] = []  # whose power was cut, and what that left
         self.words, self._machine = words, machine
-        hosts = self.net.hosts if self.net else ()
-        places = reached(words.at, self.names) if words.at else machine.places(count, hosts)
-        self.hooks = Hooks(words, file, self.ledger, machine, places)
+        self.hooks = Hooks(words, file, self.ledger, machine, self._places())
         self.hooks.before = self._before
         self.elsewhere = Elsewhere(self.hooks)
         self._keeping: dict[int, asyncio.Task[None]] = {}  # each brings a process back
@@ -68,6 +66,14 @@ class Store(Harness):
         self.idle: set[int] = set()  # those whose last join left the folder empty
         self._elected = 0  # how many of the losses an election has seen
         self._joining, self._alone_until = 0, 0.0
+
+    def _places(self) -> list[Place]:
+        """Where each process is reached: at free ports, if that isn't given."""
+        if given := self.words.at or addresses(self.words.on):
+            return reached(given, self.names)
+        count = len(self.names)
+        hosts = self.net.hosts if self.net else ["127.0.0.1"] * count
+        return in_a_row(hosts, self._machine.free_ports(PORTS * count))
 
     async def learn(self) -> None:
         """Asks which hooks there are, and whether they do for the words of this run."""

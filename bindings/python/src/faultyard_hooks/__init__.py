@@ -47,6 +47,7 @@ ELSEWHERE = {
     "record_in": "files",
     "records_in": "files",
     "Resp": "resp",
+    "Ssh": "ssh",
     "ZooKeeper": "zookeeper",
 }
 
@@ -126,18 +127,22 @@ def another(n: int) -> int:
 # Hooks.
 
 
-def main(*promises: str, user: str = "") -> None:
+def main(*promises: str, user: str = "", on: Any = None) -> None:
     """Calls the hook that the command line names: the function of this name in the hooks' file.
 
     `start` returns a command. `write` returns a mark, or nothing where the record's number is one.
     `check` returns a value or None, and any other hook False for no, or what it prints. An OSError
     says no too. `promises` are printed beside the names. Without a function `ready` a process is
     ready once its first port takes a connection. Where hooks run as root, their commands run as
-    `user`, who gets the folders of the processes: some stores refuse to run as root.
+    `user`, who gets the folders of the processes: some stores refuse to run as root. `on` says
+    where they run, as `Ssh("h0", "h1")` or the tool's `--on` does.
     """
     given = vars(sys.modules["__main__"])
     hooks = {name: given[name] for name in HOOKS if name in given}
     hooks.setdefault("ready", is_reachable)
+    on = on or driver(_told("FY_ON", ""))
+    if on:
+        on.user, hooks = user, on.hooks(hooks)
     name, *numbers = sys.argv[1:] or [""]
     if name == "hooks":
         print(*hooks, *promises)
@@ -153,8 +158,19 @@ def main(*promises: str, user: str = "") -> None:
         except noes() as fault:
             sys.exit(_in_words(fault))
         if name == "start":
-            _become(folder(int(numbers[0])), result)
+            if on:  # which has it run as the user there
+                _user.clear()
+            _become("." if on else folder(int(numbers[0])), result)
         _end(result)
+
+
+def driver(text: str) -> Any:
+    """What `--on` says: the driver by which processes are elsewhere; None where it says nothing."""
+    if not text:
+        return None
+    from .ssh import Ssh
+
+    return Ssh.of(text)
 
 
 def _end(result: Any) -> None:
