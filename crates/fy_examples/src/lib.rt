@@ -29,6 +29,8 @@ mod events;
 #[cfg(test)]
 mod grants;
 #[cfg(test)]
+mod holders;
+#[cfg(test)]
 mod journal;
 #[cfg(test)]
 mod kinds;

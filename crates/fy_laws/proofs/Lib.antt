@@ -1,3 +1,4 @@
+pub mod Blamed
 pub mod FromLaws
 pub mod FromWords
 pub mod Illegal

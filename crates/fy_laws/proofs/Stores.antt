@@ -25,7 +25,7 @@ two_zones others = record {
   each = (((0, refl), (0, ltb-true 0 6 refl, refl)), (((2, refl), (2, ltb-true 2 6 refl, refl)), tt));
 }
 
-covered : (journal : List Entry) (r : ℕ) → IsCovered six (of.moment journal (0 ∷ 2 ∷ []) true) r
+pub covered : (journal : List Entry) (r : ℕ) → IsCovered six (of.moment journal (0 ∷ 2 ∷ []) true) r
 covered journal r = (in_two_zones, (0, ltb-true 0 1 refl, refl), two_zones (destroyed (history six journal)))
 
 -- ---- the steps
@@ -39,7 +39,7 @@ writes = record {
 }
 
 -- who is one of these is the first or one of the others
-first_or_other : (a : ℕ) (ps : List ℕ) (p : ℕ) → of.these (a ∷ ps) p ≡ true → (a ≡ p) ⊎ (of.these ps p ≡ true)
+pub first_or_other : (a : ℕ) (ps : List ℕ) (p : ℕ) → of.these (a ∷ ps) p ≡ true → (a ≡ p) ⊎ (of.these ps p ≡ true)
 first_or_other a ps p e = elim (or_cases (a == p) (of.these ps p) e) [ inl k ↦ inl (eqb-true a p k) | inr k ↦ inr k ]
 
 only_struck : (p : ℕ) → of.these (0 ∷ 2 ∷ []) p ≡ true → of.these (2 ∷ []) p ≡ false → destroyed (history six of.zone_emptied) p ≡ true

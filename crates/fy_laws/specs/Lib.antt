@@ -1,3 +1,4 @@
+pub mod Blamed
 pub mod Clusters
 pub mod Strikes
 pub mod Permission

@@ -1,6 +1,7 @@
 //! Worked journals. Each law says of a journal that is written out that it is legal and, beside it,
 //! what it comes to; or of a wrong one that it isn't legal. `confirmed` says of what `run` and
 //! `guard` write that `check` finds it legal.
+pub mod blames;
 pub mod confirmed;
 pub mod every;
 pub mod healed;
