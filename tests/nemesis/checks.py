@@ -22,7 +22,14 @@ BARE = "start ready whole write read"
 READERS = f"{BARE} check salvage"
 
 
+def store(*modes: Mode, **more: object) -> Toy:
+    """A store that writes few records, for which each process is asked again and again."""
+    return Toy(0, *modes, pace=0.2, **more)
+
+
 class Checks(Case):
+    is_shown = False
+
     def checked(self, toy: Toy, *messages: str, status: int = 3, limit: float = 2.0) -> Ran:
         """What is said of a store, which each message is found in."""
         words = ("--check-hooks", "--hook-timeout", limit)
@@ -34,7 +41,7 @@ class Checks(Case):
     def keeping(self, *modes: Mode, listed: str = BARE) -> Toy:
         """A store whose `read` tells what was acknowledged whatever the members have, so that only
         disks show what they lack."""
-        toy = Toy(0, *modes, listed=listed)
+        toy = store(*modes, listed=listed)
 
         async def read(call: Call) -> int:
             for pair in toy.acked.items():
@@ -51,12 +58,12 @@ class Checks(Case):
         )
         for listed in (BARE, READERS, f"{READERS} join", f"{READERS} fresh plain"):
             with self.subTest(listed):
-                it = self.checked(Toy(listed=listed), text, status=0)
+                it = self.checked(store(listed=listed), text, status=0)
                 self.assertIn("p2 is back after RebootAndDelete", it.told)
 
     def test_each_hook_is_called(self):
         own = {"pause": ends(0), "resume": ends(0), "leave": ends(0)}
-        toy = Toy(listed=f"{READERS} setup join pause resume leave", hooks=own)
+        toy = store(listed=f"{READERS} setup join pause resume leave", hooks=own)
         self.checked(toy, "p2 is out after KillInstantly", status=0)
         called = {call.split()[0] for call in toy.calls}
         self.assertEqual(called, {*toy.listed.split(), "hooks"})
@@ -71,12 +78,12 @@ class Checks(Case):
             ("leave", "p2 is not out: leave 2 ended with status 3"),
         ):
             own = {"pause": ends(0), "resume": ends(0), "leave": ends(0)} | {hook: ends(3)}
-            toy = Toy(listed=f"{BARE} pause resume leave", hooks=own)
+            toy = store(listed=f"{BARE} pause resume leave", hooks=own)
             self.checked(toy, message)
 
     def slow_whole(self, *modes: Mode) -> Toy:
         """A store whose `whole` says no for three seconds after it was asked first."""
-        toy, first = Toy(0, *modes, listed=READERS), dict[int, float]()
+        toy, first = store(*modes, listed=READERS), dict[int, float]()
 
         async def whole(call: Call) -> int:
             if call.number in toy.members:
@@ -109,7 +116,7 @@ class Checks(Case):
             r"; p0 ended by itself \d+ times while it was up, \d+ times before;"
             r" last with status 3: assertion failed: the sky is up\n$"
         )
-        toy = Toy(0, Crashes(0, 2.0), hooks={"whole": ends(1)})
+        toy = store(Crashes(0, 2.0), hooks={"whole": ends(1)})
         self.checked(toy, crash)
 
     def test_a_whole_that_lies(self):
@@ -121,12 +128,12 @@ class Checks(Case):
         text = (
             r"after p1 was emptied `read` lacks \d+ of \d+ records .*: `whole 0` said yes too early"
         )
-        self.checked(Toy(0, Forgetful()), text)
+        self.checked(store(Forgetful()), text)
 
     def test_a_whole_that_does_not_ask_the_process(self):
         """Neither one that asks nobody nor one that asks the next member says no while the process
         is down."""
-        toy = Toy()
+        toy = store()
 
         async def elsewhere(call: Call) -> int:
             call.numbers[0] = (call.number + 1) % 3
@@ -137,17 +144,17 @@ class Checks(Case):
             r" `whole` asks another process, or none\n$"
         )
         for whole in (ends(0), elsewhere):
-            toy = Toy(hooks={"whole": whole})
+            toy = store(hooks={"whole": whole})
             self.checked(toy, text)
 
     def test_whether_files_are_plain(self):
         listed = f"{BARE} read salvage plain"
-        self.checked(Toy(listed=listed), status=0)
+        self.checked(store(listed=listed), status=0)
         text = (
             r"`plain` is promised, and of (\d+) of \1 records \(r/\d+ ..\)"
             r" nothing stands in the files of p0"
         )
-        self.checked(Toy(0, Encoded(), listed=listed), text)
+        self.checked(store(Encoded(), listed=listed), text)
 
     def test_a_join_that_does_nothing(self):
         empty = (
@@ -155,31 +162,31 @@ class Checks(Case):
             r" \(right if the store fills it at its start\)"
         )
         text = rf"p0 is up and not whole: whole 0 \d+ ended with status 1; {empty}"
-        self.checked(Toy(0, Idle(), listed=f"{READERS} join"), text)
+        self.checked(store(Idle(), listed=f"{READERS} join"), text)
         text = rf"after p1 was emptied `read` lacks .*; {empty}: `whole 0` said yes"
-        self.checked(Toy(0, Forgetful(), listed=f"{BARE} join"), text)
+        self.checked(store(Forgetful(), listed=f"{BARE} join"), text)
 
     def test_a_read_that_lies(self):
         text = (
             r"nothing was struck yet, and `read` lacks \d+ of \d+ records \(r/\d+[05] ..\):"
             r" `read` is wrong"
         )
-        self.checked(Toy(0, Partial(5), listed=READERS), text)
+        self.checked(store(Partial(5), listed=READERS), text)
 
     def test_a_read_that_tells_two_values(self):
         other = "fedcba9876543210"
         text = rf"`read` told r/\d+ twice, as [0-9a-f]+ and as {other}: `read` is"
-        self.checked(Toy(0, Twice(50, other)), text)
-        self.checked(Toy(0, Twice(1)), status=0)
+        self.checked(store(Twice(50, other)), text)
+        self.checked(store(Twice(1)), status=0)
 
     def test_a_check_that_lies(self):
         text = (
             r"nothing was struck yet, and p2 lacks (\d+) of \1 records .* by `check`,"
             r" which `read` has: `check` is wrong"
         )
-        self.checked(Toy(0, Denies(2), listed=READERS), text)
+        self.checked(store(Denies(2), listed=READERS), text)
         text = r"`check` told [0-9a-f]+ of p0, which doesn't run: `check` asks another process"
-        self.checked(Toy(0, Elsewhere(), listed=READERS), text)
+        self.checked(store(Elsewhere(), listed=READERS), text)
 
     def test_a_check_that_tells_of_what_nobody_wrote(self):
         class Invented(Mode):
@@ -187,11 +194,11 @@ class Checks(Case):
                 return "abc" if told == "none" else told
 
         text = r"`check` told abc for r/999999999, which nobody wrote: `check` is wrong"
-        self.checked(Toy(0, Invented(), listed=READERS), text)
+        self.checked(store(Invented(), listed=READERS), text)
 
     def test_pauses_that_are_too_short(self):
         words = ("--check-hooks", "--hook-timeout", 3, "--pauses", "0.5,1", "--seconds", 4)
-        it = self.ran(*words, toy=Toy(boots=2.0), status=0)
+        it = self.ran(*words, toy=store(boots=2.0), status=0)
         short = r"--pauses are 0\.8 s on average, shorter than a (start|heal)"
         self.assertRegex(it.told, rf"\n{short}: orders would be lessened\n")
         self.assertRegex(it.told, r"\n--seconds 4 leaves no time for 3 heals\n")
@@ -200,21 +207,21 @@ class Checks(Case):
 
     def test_the_words_that_it_says_leave_time_for_heals(self):
         """A guarded run with them isn't lessened more than now and then."""
-        it = self.checked(Toy(boots=2.0), status=0)
+        it = self.checked(store(boots=2.0), status=0)
         found = re.search(r"take (--pauses \S+ --seconds \d+)\n$", it.told)
         assert found
-        it = self.ran(*found[1].split(), toy=Toy(boots=2.0), status=0)
+        it = self.ran(*found[1].split(), toy=store(boots=2.0), status=0)
         struck = it.orders()
         lessened = [order for order in struck if order["verdict"] != order["order"]]
         self.assertGreater(len(struck), 10)
         self.assertLess(len(lessened), len(struck) / 2)
 
     def test_a_join_that_fails(self):
-        toy = Toy(listed=f"{BARE} join", hooks={"join": ends(5)})
+        toy = store(listed=f"{BARE} join", hooks={"join": ends(5)})
         self.checked(toy, "p0 is not back: join 0 ended with status 5")
 
     def test_a_whole_that_hangs(self):
-        toy = Toy()
+        toy = store()
 
         async def whole(call: Call) -> int:
             return await hangs(call) if call.number in toy.members else 1

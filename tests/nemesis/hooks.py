@@ -10,10 +10,12 @@ STARTS = "start whole write read"
 
 
 class Hooks(Case):
-    def wrong(self, toy: Toy, message: str, *words: object, status: int = 3) -> Ran:
+    is_shown = False
+
+    def wrong(self, toy: Toy, message: str, *words: object, status: int = 3, **more: object) -> Ran:
         """A run of a store with such hooks, which says that."""
         words = ("--seconds", 3, "--hook-timeout", 2, *words)
-        it = self.ran(*words, toy=toy, status=status)
+        it = self.ran(*words, toy=toy, status=status, **more)
         self.assertIn(message, it.told)
         return it
 
@@ -149,7 +151,8 @@ class Hooks(Case):
 
     def test_read_prints_rubbish(self):
         message = "read printed 'no such table'; it has to print 'KEY VALUE' lines"
-        it = self.wrong(self.hooked(read=ends(0, prints=["no such table"])), message)
+        toy = self.hooked(read=ends(0, prints=["no such table"]))
+        it = self.wrong(toy, message, is_shown=True)
         self.assertRegex(it.told, r"\n\d+ acknowledged so far, not read; audit legal ")
         self.assertIn("acknowledged so far, not read", (it.out / "picture.svg").read_text())
 

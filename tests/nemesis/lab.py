@@ -119,6 +119,8 @@ class Case(unittest.TestCase):
     """A folder of its own, and runs in it."""
 
     maxDiff = None
+    is_shown = True
+    """Whether runs are shown, if they don't say so."""
 
     def setUp(self) -> None:
         room = tempfile.TemporaryDirectory(prefix="nemesis-test-", dir=MEMORY)
@@ -129,6 +131,7 @@ class Case(unittest.TestCase):
         """A run that has to end with this status; what its processes had is kept."""
         self.runs += 1
         kept = ["--keep"] if keep else []
+        more = {"is_shown": self.is_shown} | more
         it = ran(toy, self.room / str(self.runs), *words, *kept, **more)
         self.assertEqual(it.status, status, it.told)
         if (it.out / "audit").exists():

@@ -25,6 +25,7 @@ class Stores(Case):
     """A store for each verdict."""
 
     CALM = ("--hook-timeout", 2, "--seconds", 2, "--quiet")
+    is_shown = False
 
     def judged(
         self, toy: Toy, status: int, *words: object, **counts: int
