@@ -25,6 +25,8 @@ from pathlib import Path
 
 import histories
 import keeper
+import lab
+import toy
 from nemesis import store
 
 HERE = Path(__file__).resolve().parent
@@ -406,12 +408,9 @@ class Others(Case):
         return told[-1]
 
     def test_others_order_by_a_server_that_is_killed(self):
+        """A real server, and a run in virtual time: while it is asked or killed no time passes."""
         start, door = self.served()
-        server = start()
-        running = self.start("--seed", 4, "--seconds", 10, "--pauses", 1, "--guard", door)
-        wait_until(
-            "the first order", lambda: (self.answer(door, {"from": 0}) or {"to": 0})["to"] > 0
-        )
+        servers, asked = [start()], []
         order = {
             "key": "processid",
             "value": "p1",
@@ -419,29 +418,34 @@ class Others(Case):
             "floor": "RebootProcess",
             "tear": 0,
         }
-        asked = []
-        for by, act in (
-            (2, {"kill": order}),
-            (3, {"protect": {"process": 0, "kinds": ["Reboot"]}}),
-        ):
-            server.kill()
-            server.wait()  # until then it holds its audit
-            server = start()
+
+        def order_by(by, act):
+            servers[-1].kill()
+            servers[-1].wait()  # until then it holds its audit
+            servers.append(start())
             asked.append(self.ask(door, {"by": by, "act": act}))
             self.assertEqual((asked[-1]["by"], asked[-1]["act"]), (by, act))
-        told, said = running.communicate(timeout=SECONDS)
-        self.assertEqual(running.returncode, 0, told + said)
-        self.assertIn(" 0 lost", told)
-        entries = self.audit()
-        self.assertIn(f"audit legal {len(entries)}", told)
-        self.assertEqual([entries[it["at"]] for it in asked], asked)
-        done = next(event for event in self.events("order") if event["by"] == 2)
-        self.assertEqual(
-            (done["targets"], done["does"]), ([1], asked[0]["reply"]["verdict"]["struck"])
-        )
-        self.out = self.room / "again"
-        again = self.run_tool("--guard", door, status=2)
-        self.assertIn(f"{door} has entries: a run needs a new audit", again)
+
+        def later():
+            loop = asyncio.get_running_loop()
+            loop.call_later(3, order_by, 2, {"kill": order})
+            loop.call_later(5, order_by, 3, {"protect": {"process": 0, "kinds": ["Reboot"]}})
+
+        words = ("--seed", 4, "--seconds", 10, "--pauses", 1, "--guard", door)
+        it = lab.ran(toy.Toy(), self.out, *words, during=later)
+        self.assertEqual(it.status, 0, it.told)
+        self.assertEqual(len(asked), 2)
+        self.assertIn(" 0 lost", it.told)
+        entries = it.audit()
+        self.assertIn(f"audit legal {len(entries)}", it.told)
+        self.assertEqual([entries[answer["at"]] for answer in asked], asked)
+        done = next(order for order in it.orders() if order["by"] == 2)
+        struck = asked[0]["reply"]["verdict"]["struck"]
+        self.assertEqual((done["targets"], done["does"]), ([1], struck))
+        self.assertGreater(sum(order["by"] == 1 for order in it.orders()), 3)
+        again = lab.ran(toy.Toy(), self.room / "again", "--guard", door)
+        self.assertEqual(again.status, 2)
+        self.assertIn(f"{door} has entries: a run needs a new audit", again.told)
 
 
 def cases(suite):
