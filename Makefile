@@ -140,7 +140,7 @@ nemesis-seeds:
 
 ## aborts a hundred runs of `faultyard-nemesis` at random moments: no process may be left
 nemesis-aborts:
-	tests/nemesis/run --aborts 100 bin/faultyard real.Trees.test_aborted_runs_leave_nothing
+	tests/nemesis/run --aborts 100 bin/faultyard real.Aborts
 	tests/power/run --aborts 100 bin/faultyard Aborts
 
 ## kills `faultyard-serve` a hundred times while a nemesis and two testers ask it over an etcd of

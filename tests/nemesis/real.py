@@ -349,15 +349,20 @@ class Trees(Case):
         self.assertEqual(running.returncode, 5, said)
         wait_until("the end of all", lambda: not self.left())
 
-    def test_aborted_runs_leave_nothing(self):
-        dice = random.Random(1)
-        for turn in range(int(os.environ.get("NEMESIS_ABORTS", 9))):
+
+class Aborts(Case):
+    """Runs that are aborted at random moments leave no process, and no file outside their
+    folders."""
+
+    SIGNALS = (signal.SIGINT, signal.SIGTERM, signal.SIGKILL)
+
+    def aborted(self, number):
+        turns = range(int(os.environ.get("NEMESIS_ABORTS", 9)))
+        for turn in turns[self.SIGNALS.index(number) :: len(self.SIGNALS)]:
             self.out = self.room / f"abort-{turn}"
-            number = [signal.SIGINT, signal.SIGTERM, signal.SIGKILL][turn % 3]
-            running = self.start(
-                "--seed", turn, "--seconds", 60, "--pauses", "0.1,0.3", "--quiet", cases=self.DAEMON
-            )
-            time.sleep(dice.uniform(0.02, 4))
+            words = ("--seed", turn, "--seconds", 60, "--pauses", "0.1,0.3", "--quiet")
+            running = self.start(*words, cases=Trees.DAEMON)
+            time.sleep(random.Random(turn).uniform(0.02, 4))
             if number == signal.SIGINT:
                 wait_until("the folder", self.out.exists)  # Python that only starts may swallow it
             running.send_signal(number)
@@ -365,6 +370,15 @@ class Trees(Case):
             self.assertIn(running.returncode, (-number, 128 + number), told + said)
             wait_until(f"the end of all, after {number.name}", lambda: not self.left())
             self.assertEqual(list(self.room.joinpath("cwd").iterdir()), [])
+
+    def test_by_an_interrupt(self):
+        self.aborted(signal.SIGINT)
+
+    def test_by_a_wish_to_end(self):
+        self.aborted(signal.SIGTERM)
+
+    def test_by_a_kill(self):
+        self.aborted(signal.SIGKILL)
 
 
 class Others(Case):
