@@ -211,6 +211,45 @@ class Files(Case):
             self.assertEqual(server.file.read_bytes(), whole)
             self.assertEqual(server.end(), 0)
 
+    def test_no_key_is_forgotten_with_its_file(self):
+        """A server either knows the key of an act, or is refused."""
+        server = self.server(http=False).start()
+        talk = server.talk()
+        answers = [talk.ask(kill(it, once=f"key-{it}")) for it in range(3)]
+        self.assertEqual(server.end(), 0)
+        events = self.folder / "audit.events"
+        before = events.read_bytes()
+        lines = before.splitlines(keepends=True)
+        changed = "it isn't as it was written, so keys of acts may be lost"
+        gone = "it is gone or empty, and with it the keys of 3 entries: an act that is sent again"
+        for what, text, why in (
+            ("another digit", before.replace(b"key-1", b"key-7"), f"line 3: {changed}"),
+            ("a byte less", before[:100] + before[101:], f"line 2: {changed}"),
+            ("a line less", b"".join(lines[:2] + lines[3:]), f"line 3: {changed}"),
+            ("half a line", before[:-9], "its last line is half, and isn't as it was written"),
+            ("empty", b"", gone),
+            ("none", None, gone),
+        ):
+            with self.subTest(what):
+                events.unlink(missing_ok=True)
+                if text is not None:
+                    events.write_bytes(text)
+                status, said = self.refuse(server.config, "--audit", server.file)
+                self.assertEqual(status, 1)
+                self.assertIn(f"faultyard-serve: {events}: {why}", said)
+                self.assertEqual(events.read_bytes() if text is not None else b"", text or b"")
+        events.write_bytes(b"".join(lines[:2]))
+        talk = server.start().talk()
+        self.assertIn("lacks the lines of the entries 1 to 2", server.said.read_text())
+        self.assertEqual(talk.ask(kill(0, once="key-0")), answers[0])
+        self.assertEqual(server.end(), 0)
+        events.write_bytes(before)
+        talk = server.start().talk()
+        again = [talk.ask(kill(it, once=f"key-{it}")) for it in range(3)]
+        self.assertEqual(again, answers)
+        self.assertEqual(server.end(), 0)
+        self.assertEqual(server.check(), "legal 3")
+
     def test_one_server_at_a_time_holds_a_file(self):
         server = self.server(http=False).start()
         other = self.folder / "other"

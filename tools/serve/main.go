@@ -153,7 +153,7 @@ func (its *server) goOn() (err error) {
 	})
 	var refusal book.Refusal
 	if errors.As(err, &refusal) {
-		refusal.Why = path + ": " + refusal.Why
+		refusal.Why = path + refusal.Beside + ": " + refusal.Why
 		return refusal
 	}
 	return err

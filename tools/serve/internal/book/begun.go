@@ -24,7 +24,7 @@ func (files Files) begunUnderIt() error {
 		return err
 	}
 	const why = "%s isn't the cluster file that it was begun under, which is %s"
-	return Refusal{1, fmt.Sprintf(why, files.Cluster, files.begun())}
+	return Refusal{Status: 1, Why: fmt.Sprintf(why, files.Cluster, files.begun())}
 }
 
 // isBegun says whether the copy has the same bytes. What two texts mean the library doesn't

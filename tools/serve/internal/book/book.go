@@ -404,6 +404,9 @@ func (book *Book) Stats() Stats {
 	return book.stats
 }
 
+// ID is the identity of the audit: another one at the same place has another.
+func (book *Book) ID() string { return book.events.id }
+
 // Entry answers the line of an entry that is on the disk.
 func (book *Book) Entry(at int) ([]byte, error) { return book.guard.Entry(at) }
 
@@ -420,10 +423,8 @@ func (book *Book) Drawn() (audit, times io.Reader, err error) {
 		if err = book.flush(); err != nil {
 			return
 		}
-		var length int64
-		length, err = book.events.file.Seek(0, io.SeekCurrent)
 		audit = io.NewSectionReader(book.audit, 0, book.length)
-		times = io.NewSectionReader(book.events.file, 0, length)
+		times, err = book.events.times()
 	})
 	if stop != nil {
 		err = stop

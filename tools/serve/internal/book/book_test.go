@@ -4,6 +4,7 @@ import (
 	"bytes"
 	"errors"
 	"fmt"
+	"io"
 	"os"
 	"path/filepath"
 	"regexp"
@@ -53,7 +54,7 @@ func after(audit []byte) (Guard, error) {
 		}
 	}
 	if !isAudit {
-		return nil, Refusal{5, fmt.Sprintf("bad entry, in %d bytes", len(audit))}
+		return nil, Refusal{Status: 5, Why: fmt.Sprintf("bad entry, in %d bytes", len(audit))}
 	}
 	return its, nil
 }
@@ -215,7 +216,7 @@ func TestAnAuditIsGoneOnWithUnderItsClusterFileAlone(test *testing.T) {
 	for _, config := range []string{"the cluster\n", "another", "another\n\n", ""} {
 		its.config = config
 		_, err := its.open()
-		same(test, fmt.Sprintf("%q", config), err, Refusal{1, why + begun})
+		same(test, fmt.Sprintf("%q", config), err, Refusal{Status: 1, Why: why + begun})
 		same(test, "the copy of one that is refused", its.read(begun), "another\n")
 	}
 	its.config = "another\n"
@@ -229,7 +230,7 @@ func TestAnAuditIsGoneOnWithUnderItsClusterFileAlone(test *testing.T) {
 	same(test, "the copy of a guard's audit", its.read(begun), "a third\n")
 	its.write(begun, "a th") // No crash leaves this.
 	_, err := its.open()
-	same(test, "half a copy", err, Refusal{1, why + begun})
+	same(test, "half a copy", err, Refusal{Status: 1, Why: why + begun})
 }
 
 func TestACopyOfTheClusterFileIsWholeAfterACrash(test *testing.T) {
@@ -310,17 +311,30 @@ func TestAKeyWithoutItsEntryIsTakenOut(test *testing.T) {
 	same(test, "another act", string(ask(book, up(7, "")).Line), entry(1, 7))
 	same(test, "the lost key", string(ask(book, up(2, "b")).Line), entry(2, 2))
 	_ = book.Close()
-	// Each front of the events gives the keys that are whole in it, and what is behind is cut.
-	for length := 0; length <= len(events); length++ {
+	// Of each front of the events every key is known, or it is said which entries have no line, or the
+	// front is refused and left alone.
+	for length := 0; length < len(events); length++ {
+		front := events[:length]
 		its.write(its.path, Header+entry(0, 1)+entry(1, 2))
-		its.write(its.path+".events", events[:length])
-		book = its.must()
-		wanted := strings.Count(events[:length], "\n") - 1
-		if wanted < 0 {
-			wanted = 0
+		its.write(its.path+".events", front)
+		its.said = nil
+		lines := strings.Count(front, "\n")
+		half := front[strings.LastIndex(front, "\n")+1:]
+		book, err := its.open()
+		isRefused := length == 0 || lines == 0 || strings.Contains(half, `"by":`)
+		same(test, fmt.Sprintf("%d: is refused", length), err != nil, isRefused)
+		if err != nil {
+			same(test, fmt.Sprintf("%d: is left alone", length), its.read(its.path+".events"), front)
+			continue
 		}
-		same(test, fmt.Sprintf("%d: keys", length), len(book.events.keys), wanted)
+		same(test, fmt.Sprintf("%d: keys", length), len(book.events.keys), lines-1)
+		const said = "%s.events lacks the lines of the entries %d to 1, " +
+			"as a crash leaves it: they had no keys"
+		same(test, "what is said", its.said, []string{fmt.Sprintf(said, its.path, lines-1)})
 		_ = book.Close()
+		its.said = nil
+		_ = its.must().Close()
+		same(test, "and is said once", its.said, []string(nil))
 	}
 	its.write(its.path+".events", "something else\n")
 	_, err := its.open()
@@ -414,6 +428,150 @@ func TestADiskThatTakesNoMoreEndsTheBook(test *testing.T) {
 	<-book.Stopped()
 	same(test, "a later act has the same error", ask(book, up(3, "")).Err, book.Stop())
 	same(test, "the audit", its.read(its.path), Header+entry(0, 1))
+}
+
+// written is a book of three entries with keys, closed, and the text of its events.
+func written(test *testing.T) (*kept, string) {
+	its := begin(test)
+	book := its.must()
+	for process, key := range []string{"a", "b", "c"} {
+		ask(book, up(process, key))
+	}
+	_ = book.Close()
+	return its, its.read(its.path + ".events")
+}
+
+// knowsAll says whether an audit with other events is refused, and they are left alone, or each key
+// is known.
+func (its *kept) knowsAll(events string) bool {
+	its.Helper()
+	its.write(its.path+".events", events)
+	book, err := its.open()
+	if err != nil {
+		var refusal Refusal
+		isRefused := errors.As(err, &refusal) && refusal.Beside == ".events"
+		return isRefused && its.read(its.path+".events") == events
+	}
+	defer book.Close()
+	for process, key := range []string{"a", "b", "c"} {
+		if !ask(book, up(process, key)).Repeated {
+			return false
+		}
+	}
+	return true
+}
+
+func TestNoKeyIsForgottenSilently(test *testing.T) {
+	its, events := written(test)
+	same(test, "as it was", its.knowsAll(events), true)
+	for at := range events {
+		for _, other := range []byte{0, '\n', ' ', '7', events[at] ^ 1, events[at] ^ 0x80} {
+			changed := []byte(events)
+			changed[at] = other
+			if !its.knowsAll(string(changed)) {
+				test.Fatalf("byte %d of %q is %q", at, events, other)
+			}
+		}
+		if !its.knowsAll(events[:at] + events[at+1:]) {
+			test.Fatalf("byte %d of %q is taken out", at, events)
+		}
+	}
+	lines := strings.SplitAfter(events, "\n")
+	for at := range lines[:3] {
+		less := strings.Join(lines[:at], "") + strings.Join(lines[at+1:], "")
+		same(test, fmt.Sprintf("without line %d", at), its.knowsAll(less), true)
+	}
+	swapped := lines[0] + lines[2] + lines[1] + lines[3]
+	same(test, "two lines are swapped", its.knowsAll(swapped), true)
+	same(test, "emptied", its.knowsAll(""), true)
+	_ = os.Remove(its.path + ".events")
+	_, err := its.open()
+	same(test, "removed", strings.Contains(fmt.Sprint(err), "the keys of 3 entries"), true)
+	_, err = os.Stat(its.path + ".cluster")
+	same(test, "the copy stays", err, nil)
+	_ = os.Remove(its.path + ".cluster")
+	_ = os.Remove(its.path + ".events")
+	_ = its.must().Close()
+}
+
+func TestWhatThePowerTookOfTheEventsIsCut(test *testing.T) {
+	its := begin(test)
+	its.write(its.path, Header+entry(0, 1)+entry(1, 2))
+	start := `{"began":1.5` + strings.Repeat(" ", sector-14) + "}\n"
+	same(test, "a sector", len(start), sector)
+	for _, rest := range []string{
+		strings.Repeat("\x00", 40), strings.Repeat("\x00", sector) + "12}\n{\"entry\":1,\"t\":2}\n",
+	} {
+		its.write(its.path+".events", start+rest)
+		book, err := its.open()
+		same(test, "an unwritten sector", err, nil)
+		if err == nil {
+			_ = book.Close()
+		}
+		key := "\n" + `{"entry":1,"t":1,"by":0,"once":"c"}` + "\n"
+		its.write(its.path+".events", start+rest+key)
+		_, err = its.open()
+		same(test, "before a key that was synced", err != nil, true)
+	}
+}
+
+func TestEventsWithoutSumsAreGoneOnWith(test *testing.T) {
+	its := begin(test)
+	its.write(its.path, Header+entry(0, 1)+entry(1, 2))
+	its.write(its.path+".events", `{"began":1.5}
+{"entry":0,"t":0.5,"by":0,"once":"a"}
+{"entry":1,"t":0.75}
+`)
+	its.write(its.path+".cluster", its.config)
+	book := its.must()
+	same(test, "an old key", ask(book, up(1, "a")).Repeated, true)
+	ask(book, up(3, "b"))
+	_ = book.Close()
+	same(test, "nothing is said", its.said, []string(nil))
+	events := its.read(its.path + ".events")
+	book = its.must()
+	same(test, "both keys", ask(book, up(1, "a")).Repeated && ask(book, up(3, "b")).Repeated, true)
+	_ = book.Close()
+	its.write(its.path+".events", strings.Replace(events, `"once":"a"`, `"once":"z"`, 1))
+	_, err := its.open()
+	const why = "line 4: it isn't as it was written, so keys of acts may be lost"
+	same(test, "a change of an old line", err, Refusal{Status: 1, Why: why, Beside: ".events"})
+}
+
+func TestAnAuditHasAnIdentityThatStays(test *testing.T) {
+	first, second := begin(test), begin(test)
+	book, other := first.must(), second.must()
+	id := book.ID()
+	same(test, "another audit has another", id != other.ID() && len(id) == 16, true)
+	ask(book, up(1, ""))
+	_ = book.Close()
+	_ = other.Close()
+	book = first.must()
+	same(test, "it stays", book.ID(), id)
+	_ = book.Close()
+}
+
+func TestTimesGoOnBehindTheLastThatIsDrawn(test *testing.T) {
+	its := begin(test)
+	book := its.must()
+	ask(book, up(1, ""))
+	book.alone(func(error) { book.events.begun = time.Now().Add(-3_000_000 * time.Second) })
+	ask(book, up(2, ""))
+	_, times, err := book.Drawn()
+	if err != nil {
+		test.Fatal(err)
+	}
+	text, _ := io.ReadAll(times)
+	same(test, "the time of the first", strings.Contains(string(text), `{"entry":0,"t":0.000}`), true)
+	last := regexp.MustCompile(`{"entry":1,"t":999999\.\d\d\d}`)
+	same(test, "and of the second", last.Match(text), true)
+	_ = book.Close()
+	events := its.read(its.path + ".events")
+	wanted := regexp.MustCompile(`{"entry":1,"t":999999\.000,"s":300000\d\.\d\d\d,"sum"`)
+	same(test, "the file has it", wanted.MatchString(events), true)
+	book = its.must()
+	same(test, "it is read again", book.events.last >= 3_000_000, true)
+	_ = book.Close()
 }
 
 func TestAnActIsKnownAgainWhateverTheOrderOfItsKinds(test *testing.T) {

@@ -1,8 +1,10 @@
 package book
 
 import (
-	"bufio"
 	"bytes"
+	"crypto/rand"
+	"crypto/sha256"
+	"encoding/hex"
 	"encoding/json"
 	"fmt"
 	"io"
@@ -17,76 +19,118 @@ const (
 	fullBuffer = 1 << 16
 	// lastTime is the greatest time that `faultyard show --times` reads, in seconds.
 	lastTime = 999_999
+	// eventsEnd is the end of the file's name, behind that of the audit.
+	eventsEnd = ".events"
 )
 
 // events is the file beside an audit: when each entry came, and the key that its act had.
 //
 // A key is on the disk before its entry is. So an entry without its key is one whose act had none.
 // A key without its entry was never answered, and is taken out when the file is opened.
+//
+// Each line has a sum over all lines up to it. So a line that was changed or taken out is found,
+// and the file refused. Lines at its end that are missing can't be told from the times that a crash
+// takes: which entries lack their line is said.
 type events struct {
 	file  *os.File
 	begun time.Time
+	id    string         // of the audit
 	last  float64        // when the clock was looked at, in seconds
 	keys  map[string]int // the entry of each key, which stands behind its actor's number
+	next  int            // the entry behind the last one that has a line
+	sum   sum
 	// buffer has what isn't in the file yet.
 	buffer []byte
 	keyed  bool // a key is in the buffer
 }
 
-// openEvents reads the file beside an audit of so many entries and this mode, and cuts what goes
-// beyond them. One that is begun has the mode of the audit.
-func openEvents(path string, count int, mode fs.FileMode) (*events, error) {
-	file, err := openFile(path, 0)
+// openEvents reads the file beside the audit of a book, and cuts what goes beyond its entries. One
+// that is begun has the mode of the audit.
+func openEvents(files Files, count int, mode fs.FileMode) (*events, error) {
+	file, err := openFile(files.Audit+eventsEnd, 0)
 	if err != nil {
 		return nil, err
 	}
 	its := &events{file: file, keys: map[string]int{}}
-	whole, err := its.read(count)
-	if err == nil && whole == 0 {
-		err = its.mayBegin()
-	}
-	if err == nil {
-		err = cut(file, whole)
-	}
-	if err == nil && whole == 0 {
-		err = file.Chmod(mode)
-	}
-	if err == nil && whole == 0 {
-		its.begin()
-		err = its.flush()
-	}
-	if err == nil {
+	if err = its.goOn(files, count, mode); err == nil {
 		err = onDisk(file)
 	}
-	if err != nil {
-		_ = file.Close()
-		return nil, fmt.Errorf("%s: %w", path, err)
+	if err == nil {
+		return its, nil
 	}
-	return its, nil
+	_ = file.Close()
+	if refusal, is := err.(Refusal); is {
+		refusal.Beside = eventsEnd
+		return nil, refusal
+	}
+	return nil, fmt.Errorf("%s: %w", file.Name(), err)
 }
 
-// mayBegin refuses a file that holds something else than half a first line.
-func (its *events) mayBegin() error {
-	const front = `{"began":`
-	start := make([]byte, len(front))
-	length, err := its.file.ReadAt(start, 0)
-	if err != nil && err != io.EOF {
+// goOn goes on with the file, or begins it.
+func (its *events) goOn(files Files, count int, mode fs.FileMode) error {
+	text, err := io.ReadAll(its.file)
+	if err != nil {
 		return err
 	}
-	if string(start[:length]) != front[:length] {
-		return Refusal{1, "it holds no events of this server"}
+	whole, err := its.read(text, count)
+	if err != nil {
+		return err
 	}
-	return nil
+	if whole == 0 {
+		if err := files.mayBeginEvents(count); err != nil {
+			return err
+		}
+	}
+	if err := cut(its.file, int64(whole)); err != nil {
+		return err
+	}
+	if whole == 0 {
+		if err := its.begin(mode); err != nil {
+			return err
+		}
+	} else if its.next < count {
+		const why = "%s lacks the lines of the entries %d to %d, as a crash leaves it: they had no keys"
+		files.Say(fmt.Sprintf(why, its.file.Name(), its.next, count-1))
+	}
+	if its.next < count {
+		its.add(count-1, "") // So that this is said once.
+	}
+	return its.flush()
 }
 
-// begin puts the line that says when the times began.
-func (its *events) begin() {
+// mayBeginEvents refuses an audit of this server whose events are gone, and the keys with them. One
+// of a guard has none.
+func (files Files) mayBeginEvents(count int) error {
+	_, err := os.Stat(files.begun())
+	if count == 0 || os.IsNotExist(err) {
+		return nil
+	}
+	const why = "it is gone or empty, and with it the keys of %d entries: an act that is sent again" +
+		" would be made twice. Without %s too they are taken as the entries of a guard"
+	return Refusal{Status: 1, Why: fmt.Sprintf(why, count, files.begun())}
+}
+
+// begin puts the line that says when the times began. The bytes of chance in it make it, and so the
+// audit, one of a kind.
+func (its *events) begin(mode fs.FileMode) error {
+	chance := make([]byte, 16)
+	if _, err := rand.Read(chance); err != nil {
+		return err
+	}
 	now := time.Now()
 	its.begun = now
-	seconds := float64(now.UnixMilli()) / 1000
-	its.buffer = append(its.buffer, `{"began":`...)
-	its.buffer = strconv.AppendFloat(its.buffer, seconds, 'f', 3, 64)
-	its.buffer = append(its.buffer, "}\n"...)
+	line := append(its.buffer, `{"began":`...)
+	line = strconv.AppendFloat(line, float64(now.UnixMilli())/1000, 'f', 3, 64)
+	line = append(append(append(line, `,"of":"`...), hex.EncodeToString(chance)...), '"')
+	its.buffer = its.sum.end(line, 0)
+	its.id = idOf(its.buffer)
+	return its.file.Chmod(mode)
+}
+
+// idOf is the identity of an audit, by the first line of its events.
+func idOf(line []byte) string {
+	digest := sha256.Sum256(line)
+	return hex.EncodeToString(digest[:8])
 }
 
 // event is a line of the file.
@@ -94,40 +138,96 @@ type event struct {
 	Began *float64
 	Entry *int
 	T     float64
-	By    json.RawMessage
-	Once  string
+	// S is T where that is later than is read by others.
+	S    float64
+	By   json.RawMessage
+	Once string
 }
 
 // read takes in the lines as far as they are whole and their entries are there, and answers how
 // many bytes those have.
-func (its *events) read(count int) (whole int64, err error) {
-	reader := bufio.NewReader(its.file)
-	next := 0
-	for {
-		line, err := reader.ReadBytes('\n')
-		if err == io.EOF {
-			return whole, nil
+func (its *events) read(text []byte, count int) (whole int, err error) {
+	for number := 1; whole < len(text); number++ {
+		rest := text[whole:]
+		line := rest[:bytes.IndexByte(rest, '\n')+1]
+		if len(line) == 0 {
+			return its.readHalf(text, whole, count)
 		}
-		if err != nil {
-			return 0, err
-		}
-		var event event
-		if json.Unmarshal(line, &event) != nil {
-			return whole, nil
-		}
+		goesOn, err := its.take(line, whole == 0, count)
 		switch {
-		case whole == 0 && event.Began != nil:
-			its.begun = time.UnixMilli(int64(*event.Began * 1000))
-		case whole == 0 || event.Entry == nil, *event.Entry < next, count <= *event.Entry:
+		case err != nil && isUnwritten(text, whole) && !hasKey(rest[len(line):], count):
 			return whole, nil
-		default:
-			next, its.last = *event.Entry+1, event.T
-			if event.Once != "" {
-				its.keys[string(bytes.TrimSpace(event.By))+" "+event.Once] = *event.Entry
-			}
+		case err != nil:
+			return 0, Refusal{Status: 1, Why: fmt.Sprintf("line %d: %v", number, err)}
+		case !goesOn:
+			return whole, nil
 		}
-		whole += int64(len(line))
+		whole += len(line)
 	}
+	return whole, nil
+}
+
+// The ways in which a line is at fault.
+var (
+	errNoEvents = Fault("it holds no events of this server")
+	errChanged  = Fault("it isn't as it was written, so keys of acts may be lost")
+)
+
+// take takes in a line, and says whether its entry is there.
+func (its *events) take(line []byte, isFirst bool, count int) (goesOn bool, err error) {
+	before := its.sum
+	var event event
+	if !its.sum.take(line) || json.Unmarshal(line, &event) != nil {
+		if isFirst && !bytes.HasPrefix(line, []byte(`{"began":`)) {
+			return false, errNoEvents
+		}
+		return false, errChanged
+	}
+	switch {
+	case isFirst && event.Began != nil:
+		its.begun, its.id = time.UnixMilli(int64(*event.Began*1000)), idOf(line)
+		return true, nil
+	case isFirst:
+		return false, errNoEvents
+	case event.Entry == nil || *event.Entry < its.next:
+		return false, errChanged
+	case count <= *event.Entry:
+		its.sum = before
+		return false, nil
+	}
+	its.next, its.last = *event.Entry+1, event.T
+	if event.S > event.T {
+		its.last = event.S
+	}
+	if event.Once != "" {
+		its.keys[string(bytes.TrimSpace(event.By))+" "+event.Once] = *event.Entry
+	}
+	return true, nil
+}
+
+// readHalf answers how many bytes are whole where the last line has no line feed. A crash leaves it
+// so before its entry is there. One whose entry is there and had a key was cut otherwise.
+func (its *events) readHalf(text []byte, whole, count int) (int, error) {
+	rest := text[whole:]
+	var entry int
+	_, err := fmt.Sscanf(string(rest), `{"entry":%d,`, &entry)
+	isThere := err == nil && entry < count && bytes.Contains(rest, []byte(`,"by":`))
+	front := []byte(`{"entry":`)
+	if whole == 0 {
+		front = []byte(`{"began":`)
+	}
+	if len(rest) < len(front) {
+		front = front[:len(rest)]
+	}
+	switch {
+	case isUnwritten(text, whole):
+		return whole, nil
+	case !bytes.HasPrefix(rest, front) && whole == 0:
+		return 0, Refusal{Status: 1, Why: "line 1: " + errNoEvents.Error()}
+	case isThere || !bytes.HasPrefix(rest, front):
+		return 0, Refusal{Status: 1, Why: "its last line is half, and " + errChanged.Error()[3:]}
+	}
+	return whole, nil
 }
 
 // look looks at the clock, for the entries that are added next.
@@ -135,17 +235,20 @@ func (its *events) look() {
 	if seconds := time.Since(its.begun).Seconds(); its.last < seconds {
 		its.last = seconds
 	}
-	if its.last > lastTime {
-		its.last = lastTime
-	}
 }
 
 // add takes in an entry, and its key if there is one.
 func (its *events) add(entry int, once string) {
+	from := len(its.buffer)
 	line := append(its.buffer, `{"entry":`...)
 	line = strconv.AppendInt(line, int64(entry), 10)
 	line = append(line, `,"t":`...)
-	line = appendTime(line, its.last)
+	if its.last <= lastTime {
+		line = appendTime(line, its.last)
+	} else {
+		line = append(appendTime(line, lastTime), `,"s":`...)
+		line = appendTime(line, its.last)
+	}
 	if once != "" {
 		its.keys[once] = entry
 		its.keyed = true
@@ -153,7 +256,8 @@ func (its *events) add(entry int, once string) {
 		line = append(append(append(line, `,"by":`...), once[:space]...), `,"once":"`...)
 		line = append(append(line, once[space+1:]...), '"')
 	}
-	its.buffer = append(line, "}\n"...)
+	its.buffer = its.sum.end(line, from)
+	its.next = entry + 1
 }
 
 // appendTime puts seconds with three digits behind a text, in a fraction of AppendFloat's time.
@@ -184,4 +288,18 @@ func (its *events) flush() error {
 	_, err := its.file.Write(its.buffer)
 	its.buffer = its.buffer[:0]
 	return err
+}
+
+// times is what `faultyard show --times` reads: the file as far as it is written. Where its times
+// are later than is read, they begin so much later.
+func (its *events) times() (io.Reader, error) {
+	length, err := its.file.Seek(0, io.SeekCurrent)
+	if err != nil {
+		return nil, err
+	}
+	section := io.NewSectionReader(its.file, 0, length)
+	if its.last <= lastTime {
+		return section, nil
+	}
+	return newLater(section, its.last-lastTime), nil
 }

@@ -22,6 +22,8 @@ const (
 type Refusal struct {
 	Status int
 	Why    string
+	// Beside is the end of the file's name that is at fault, behind that of the audit.
+	Beside string
 }
 
 // Error says why.
@@ -91,9 +93,6 @@ func (book *Book) goOn(files Files) error {
 	if err := book.openGuard(files); err != nil {
 		return err
 	}
-	if err := book.keepCluster(files); err != nil {
-		return err
-	}
 	if err := book.cut(files); err != nil {
 		return fmt.Errorf("%s: %w", files.Audit, err)
 	}
@@ -101,11 +100,18 @@ func (book *Book) goOn(files Files) error {
 	if err != nil {
 		return err
 	}
-	events, err := openEvents(files.Audit+".events", book.count, info.Mode().Perm())
+	events, err := openEvents(files, book.count, info.Mode().Perm())
 	if err != nil {
 		return err
 	}
 	book.events = events
+	// The events come first: an audit with the copy and without them has lost them.
+	if err := syncFolder(files.Audit); err != nil {
+		return err
+	}
+	if err := book.keepCluster(files); err != nil {
+		return err
+	}
 	return syncFolder(files.Audit)
 }
 
@@ -164,7 +170,7 @@ func (book *Book) text() ([]byte, error) {
 		return nil, err
 	}
 	if info.Size() > mostAudit+mostLine {
-		return nil, Refusal{1, "audit: TooLong"}
+		return nil, Refusal{Status: 1, Why: "audit: TooLong"}
 	}
 	text := make([]byte, info.Size())
 	_, err = io.ReadFull(book.audit, text)
