@@ -7,6 +7,7 @@ import functools
 import json
 import os
 import random
+import re
 import signal
 import subprocess
 import threading
@@ -15,7 +16,7 @@ from contextlib import suppress
 from pathlib import Path
 from typing import Iterator
 
-from common_serve import ROOT, Case, Server, checked, kill, run, up, workshop
+from common_serve import PATIENCE, ROOT, Case, Server, checked, free_port, kill, run, up, workshop
 
 NEEDED = "cc", "pkg-config", "libfuse3-dev", "fusermount3", "/dev/fuse"
 CUTS = 5
@@ -185,6 +186,33 @@ class Power(Case):
         self.assertEqual(server.process.wait(60), -signal.SIGTERM)
         server.start()
         self.assertEqual(server.lines()[0], first)
+        self.assertEqual(server.end(), 0)
+        disk.cut()
+
+    def test_a_disk_that_hangs_is_told(self) -> None:
+        disk, server = self.begun()
+        server.words += ["--listen", f"127.0.0.1:{free_port()}"]
+        disk.start()
+        self.addCleanup(run, "fusermount3", "-uz", "--", disk.mount)
+        self.addCleanup(disk.process.kill)
+        server.start()
+        self.assertEqual(server.ask("GET", "/healthz")[0], 200)
+        disk.process.send_signal(signal.SIGSTOP)
+        talk = server.talk()
+        talk.socket.sendall(kill(0))
+        until = time.monotonic() + PATIENCE
+        while server.ask("GET", "/healthz")[0] == 200 and time.monotonic() < until:
+            time.sleep(0.1)  # The last sync is young.
+        for path in ("/healthz", "/v1/status"):
+            status, text = server.ask("GET", path)
+            self.assertEqual(status, 503)
+            self.assertRegex(text.decode(), "the disk has answered no sync for [0-9]+ seconds")
+        status, text = server.ask("GET", "/metrics")
+        age = re.search(r"^faultyard_sync_age_seconds (\S+)$", text.decode(), re.M)
+        self.assertTrue(age and float(age[1]) > 4)
+        disk.process.send_signal(signal.SIGCONT)
+        self.assertTrue(talk.file.readline())
+        self.assertEqual(server.ask("GET", "/healthz")[0], 200)
         self.assertEqual(server.end(), 0)
         disk.cut()
 

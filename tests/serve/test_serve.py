@@ -250,6 +250,24 @@ class Files(Case):
         self.assertEqual(server.end(), 0)
         self.assertEqual(server.check(), "legal 3")
 
+    def test_a_file_that_is_gone_ends_it(self):
+        for end in ("", ".events"):
+            with self.subTest(end):
+                server = self.server(http=False).start()
+                talk, file = server.talk(), self.folder / f"audit{end}"
+                first = talk.ask(kill(0))
+                file.rename(self.folder / "old")
+                self.assertEqual(talk.ask(kill(1)), b"")
+                self.assertEqual(server.process.wait(PATIENCE), 3)
+                why = f"{file} was removed or replaced while the server ran"
+                self.assertIn(f"faultyard-serve: {why}\n", server.said.read_text())
+                (self.folder / "old").rename(file)
+                server.file.write_bytes(HEADER + first)  # What was never answered goes.
+                server.start()
+                self.assertEqual(server.end(), 0)
+                for path in self.folder.glob("audit*"):
+                    path.unlink()
+
     def test_one_server_at_a_time_holds_a_file(self):
         server = self.server(http=False).start()
         other = self.folder / "other"

@@ -114,6 +114,7 @@ type Book struct {
 	guard  Guard
 	audit  *os.File
 	events *events
+	places []place // of both files
 
 	lock    sync.Mutex
 	waiting []*Party
@@ -122,7 +123,9 @@ type Book struct {
 	stopped chan struct{}
 	grown   chan struct{} // closed once there are more entries
 	stats   Stats
-	length  int64 // of the audit in bytes, as far as it is on the disk
+	length  int64   // of the audit in bytes, as far as it is on the disk
+	ends    []int64 // where the line of each entry ends
+	health  health
 	// lastSync is how long the last sync took.
 	lastSync time.Duration
 	spare    []*Party
@@ -188,8 +191,12 @@ func (book *Book) handOn(served []*Party) {
 }
 
 // View calls a function while nobody acts and all that was done is on the disk. Where the disk
-// failed, the guard has acts that aren't there: then it isn't called, and the error says why.
+// failed, the guard has acts that aren't there: then it isn't called, and the error says why. Nor is
+// it where the disk doesn't answer.
 func (book *Book) View(look func()) (err error) {
+	if book.isHanging() {
+		return book.hangs()
+	}
 	book.alone(func(stop error) {
 		if stop != nil && stop != ErrEnded {
 			err = stop
@@ -258,7 +265,12 @@ func (book *Book) commit(turns []*Turn) error {
 	}
 	if len(book.buffer) > 0 {
 		begun := time.Now()
+		book.asks(begun)
 		if err := book.write(); err != nil {
+			return err
+		}
+		// Nobody is answered what stands in a file without a name.
+		if err := book.areThere(); err != nil {
 			return err
 		}
 		stats.Syncs, stats.Synced = 1, time.Since(begun)
@@ -341,10 +353,22 @@ func (book *Book) write() error {
 	return err
 }
 
+// asks notes since when the disk is written to.
+func (book *Book) asks(since time.Time) {
+	book.lock.Lock()
+	defer book.lock.Unlock()
+	book.health.asked = since
+}
+
 // publish tells those who look on what a commit did.
 func (book *Book) publish(stats Stats) {
 	book.lock.Lock()
 	defer book.lock.Unlock()
+	for at, letter := range book.buffer {
+		if letter == '\n' {
+			book.ends = append(book.ends, book.length+int64(at)+1)
+		}
+	}
 	book.length += int64(len(book.buffer))
 	its := &book.stats
 	its.Entries = book.count
@@ -354,6 +378,7 @@ func (book *Book) publish(stats Stats) {
 	its.Syncs += stats.Syncs
 	if stats.Syncs > 0 {
 		book.lastSync = stats.Synced
+		book.health.answered, book.health.asked = time.Now(), time.Time{}
 	}
 	its.Synced += stats.Synced
 	if stats.Made > 0 && book.grown != nil {
@@ -406,9 +431,6 @@ func (book *Book) Stats() Stats {
 
 // ID is the identity of the audit: another one at the same place has another.
 func (book *Book) ID() string { return book.events.id }
-
-// Entry answers the line of an entry that is on the disk.
-func (book *Book) Entry(at int) ([]byte, error) { return book.guard.Entry(at) }
 
 // Audit is the audit as far as it is on the disk, and how many bytes it has.
 func (book *Book) Audit() (io.ReadSeeker, int64) {

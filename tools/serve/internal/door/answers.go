@@ -5,7 +5,6 @@ import (
 	"embed"
 	"encoding/json"
 	"errors"
-	"fmt"
 	"io"
 	"mime"
 	"net/http"
@@ -119,15 +118,21 @@ type state struct {
 }
 
 // state is the state that is on the disk.
-func (web *Web) state() (state, error) {
-	its := state{Version: web.Version, Processes: append([]cluster.Process{}, web.Processes...)}
-	err := web.Book.View(func() {
-		its.Entries = web.Book.Stats().Entries
-		for number := range its.Processes {
-			its.Processes[number].State = web.Guard.State(number)
-		}
+func (web *Web) state() (its state, err error) {
+	its.Version = web.Version
+	err = web.Book.View(func() {
+		its.Entries, its.Processes = web.Book.Stats().Entries, web.seen()
 	})
 	return its, err
+}
+
+// seen is the processes as the guard sees them now: an act that it made may not be on the disk yet.
+func (web *Web) seen() []cluster.Process {
+	its := append([]cluster.Process{}, web.Processes...)
+	for number := range its {
+		its[number].State = web.Guard.State(number)
+	}
+	return its
 }
 
 // audit answers the audit, or its entries from one on.
@@ -160,17 +165,16 @@ func (web *Web) audit(writer http.ResponseWriter, request *http.Request) {
 
 // entries answers the lines of the entries from one on.
 func (web *Web) entries(writer http.ResponseWriter, request *http.Request, from int) {
-	for at, count := from, web.Book.Stats().Entries; at < count; at++ {
-		line, err := web.Book.Entry(at)
+	for at, count := from, web.Book.Stats().Entries; at < count; {
+		lines, next, err := web.Book.Entries(at, count, enoughOutput)
 		if err != nil {
 			panic(http.ErrAbortHandler) // So that nobody takes it for all.
 		}
-		if at%256 == 0 {
-			patience(request, answerSeconds)
-		}
-		if _, err := writer.Write(line); err != nil {
+		patience(request, answerSeconds)
+		if _, err := writer.Write(lines); err != nil {
 			return
 		}
+		at = next
 	}
 }
 
@@ -199,9 +203,9 @@ func (web *Web) targets(writer http.ResponseWriter, request *http.Request) {
 	writeJSON(writer, http.StatusOK, map[string]any{"processes": found})
 }
 
-// healthz says whether acts are made.
+// healthz says whether acts are made, and the disk answers.
 func (web *Web) healthz(writer http.ResponseWriter, _ *http.Request) {
-	if err := web.Book.Stop(); err != nil {
+	if err := web.Book.Health(book.MostWait); err != nil {
 		fail(writer, http.StatusServiceUnavailable, err.Error())
 		return
 	}
@@ -232,14 +236,16 @@ func (web *Web) events(writer http.ResponseWriter, request *http.Request) {
 	for {
 		stats, grown := web.Book.Grown()
 		patience(request, answerSeconds)
-		for ; at < stats.Entries; at++ {
-			line, err := web.Book.Entry(at)
+		for at < stats.Entries {
+			lines, next, err := web.Book.Entries(at, stats.Entries, enoughOutput)
 			if err != nil {
 				return
 			}
-			if _, err := fmt.Fprintf(writer, "id: %d\ndata: %s\n", at, line); err != nil {
+			patience(request, answerSeconds)
+			if _, err := writer.Write(eventsOf(lines, at)); err != nil {
 				return
 			}
+			at = next
 		}
 		flusher.Flush()
 		select {
@@ -254,6 +260,18 @@ func (web *Web) events(writer http.ResponseWriter, request *http.Request) {
 			}
 		}
 	}
+}
+
+// eventsOf is the events of lines, of which the first is that of an entry.
+func eventsOf(lines []byte, first int) []byte {
+	text := make([]byte, 0, 2*len(lines))
+	for at := first; len(lines) > 0; at++ {
+		end := bytes.IndexByte(lines, '\n') + 1
+		text = strconv.AppendInt(append(text, "id: "...), int64(at), 10)
+		text = append(append(append(text, "\ndata: "...), lines[:end]...), '\n')
+		lines = lines[end:]
+	}
+	return text
 }
 
 // firstEvent is the entry that a client wants first.

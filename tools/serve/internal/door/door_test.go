@@ -32,6 +32,13 @@ type guard struct {
 	failed error // what each act ends in, if anything
 	blind  error // what each look at an entry ends in, if anything
 	broken any   // what each look at a process panics with, if anything
+	audit  string
+}
+
+// entry is the line of an entry, from 0.
+func entry(web *Web, at int) []byte {
+	line, _ := web.Guard.(*guard).Scribe.Entry(at)
+	return line
 }
 
 func (its *guard) Act(line []byte) ([]byte, error) {
@@ -75,8 +82,8 @@ func (its *guard) Targets(key, value string) ([]int, error) {
 
 // begin is a web over a new book, which has room for so many entries.
 func begin(test *testing.T, most int) *Web {
-	its := &guard{Scribe: scribe.Scribe{Most: most}}
 	path := filepath.Join(test.TempDir(), "audit")
+	its := &guard{Scribe: scribe.Scribe{Most: most}, audit: path}
 	kept, err := book.Open(book.Files{
 		Audit: path,
 		After: func([]byte) (book.Guard, error) { return its, nil },
@@ -553,7 +560,7 @@ func TestEventsComeAsTheyAreMade(test *testing.T) {
 			data, _ := lines.ReadString('\n')
 			empty, _ := lines.ReadString('\n')
 			same(test, "the id", id, fmt.Sprintf("id: %d\n", at))
-			entry, _ := web.Book.Entry(at)
+			entry := entry(web, at)
 			same(test, "the entry", data+empty, "data: "+string(entry)+"\n")
 		}
 		_ = answer.Body.Close()
@@ -565,7 +572,7 @@ func TestTheProgramReadsWhatIsOnTheDisk(test *testing.T) {
 	const tells = `echo "$*"; cat "$2"; echo; cat; [ "$1" = bears ] || tail -n +2 "$4"; echo x >&2`
 	web.Program = script(test, tells)
 	ask(web, up, "POST /v1/acts")
-	entry, _ := web.Book.Entry(0)
+	entry := entry(web, 0)
 	told := ask(web, "", "GET /v1/bears").Body.String()
 	wanted := "bears /dev/fd/3 --json --after /dev/stdin\nconfig\n" + book.Header + string(entry)
 	same(test, "bears", told, wanted)
@@ -920,7 +927,7 @@ func TestAnAnswerThatIsCutOffIsSeenToBe(test *testing.T) {
 	for number := 0; number < 3; number++ {
 		ask(web, up, "POST /v1/acts")
 	}
-	web.Guard.(*guard).blind = errors.New("no memory")
+	_ = os.Truncate(web.Guard.(*guard).audit, int64(len(book.Header)))
 	answer, err := http.Get(server.URL + "/v1/audit?from=1")
 	if err == nil {
 		_, err = io.ReadAll(answer.Body)
@@ -935,7 +942,7 @@ func TestOneWhoseEntriesCantBeReadIsLetGo(test *testing.T) {
 	web := begin(test, 100)
 	ask(web, up, "POST /v1/acts")
 	ask(web, up, "POST /v1/acts")
-	web.Guard.(*guard).blind = errors.New("no memory")
+	_ = os.Truncate(web.Guard.(*guard).audit, int64(len(book.Header)))
 	done := make(chan string)
 	go func() { done <- talk(test, web, "{\"from\":0}\n") }()
 	select {
@@ -945,6 +952,42 @@ func TestOneWhoseEntriesCantBeReadIsLetGo(test *testing.T) {
 		test.Fatal("it hangs")
 	}
 	same(test, "nobody is connected", soon(func() bool { return web.Lines.Count() == 0 }), true)
+}
+
+// TestReadersNeverAskTheGuard has all ways to read, while the guard shows no entry: whoever acts
+// waits for it.
+func TestReadersNeverAskTheGuard(test *testing.T) {
+	web := begin(test, 1000)
+	server := httptest.NewServer(web)
+	defer server.Close()
+	var all []byte
+	for number := 0; number < 700; number++ {
+		ask(web, up, "POST /v1/acts")
+		all = append(all, entry(web, number)...)
+	}
+	web.Guard.(*guard).blind = errors.New("the guard was asked")
+	same(test, "the audit", ask(web, "", "GET /v1/audit").Body.String(), book.Header+string(all))
+	behind := all[bytes.IndexByte(all, '\n')+1:]
+	same(test, "from 1", ask(web, "", "GET /v1/audit?from=1").Body.String(), string(behind))
+	told := talk(test, web, "{\"from\":0}\n")
+	same(test, "a line", told, book.Header+"{\"from\":0,\"to\":700}\n"+string(all))
+	answer, err := http.Get(server.URL + "/v1/events?from=0")
+	if err != nil {
+		test.Fatal(err)
+	}
+	defer answer.Body.Close()
+	lines := bufio.NewReader(answer.Body)
+	var events []byte
+	for len(events) < len(all) {
+		line, err := lines.ReadBytes('\n')
+		if err != nil {
+			test.Fatal(err)
+		}
+		if text := bytes.TrimPrefix(line, []byte("data: ")); len(text) < len(line) {
+			events = append(events, text...)
+		}
+	}
+	same(test, "the events", string(events), string(all))
 }
 
 func TestOneWhoAsksOnlyForTheHeadOfEventsIsAnswered(test *testing.T) {

@@ -346,9 +346,9 @@ func (its *loop) answer(client *client) {
 		client.turn.Asks = client.turn.Asks[:0]
 	}
 	for client.next < client.to && len(client.output) < enoughOutput && client.failed == nil {
-		line, err := its.lines.Book.Entry(client.next)
-		client.output, client.failed = append(client.output, line...), err
-		client.next++
+		lines, next, err := its.lines.Book.Entries(client.next, client.to, enoughOutput)
+		client.output, client.failed = append(client.output, lines...), err
+		client.next = next
 	}
 	its.finish(client)
 }

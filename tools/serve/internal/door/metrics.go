@@ -51,21 +51,22 @@ var states = []struct {
 	{"gone", func(its cluster.State) bool { return its.Gone }},
 }
 
-// metrics answers counts in the text format of Prometheus.
+// metrics answers counts in the text format of Prometheus. It doesn't wait for the disk, of which it
+// tells.
 func (web *Web) metrics(writer http.ResponseWriter, _ *http.Request) {
 	var text strings.Builder
 	metric := func(name, kind, help string) {
 		fmt.Fprintf(&text, "# HELP faultyard_%s %s\n", name, help)
 		fmt.Fprintf(&text, "# TYPE faultyard_%s %s\n", name, kind)
 	}
-	its, err := web.state()
-	if err != nil {
+	if err := web.Book.Stop(); err != nil {
 		failOf(writer, err)
 		return
 	}
+	its := web.seen()
 	stats := web.Book.Stats()
 	metric("entries", "gauge", "Entries of the audit.")
-	fmt.Fprintf(&text, "faultyard_entries %d\n", its.Entries)
+	fmt.Fprintf(&text, "faultyard_entries %d\n", stats.Entries)
 	metric("acts_total", "counter", "Acts that were asked for, by what came of them.")
 	for _, row := range []struct {
 		word  string
@@ -76,10 +77,12 @@ func (web *Web) metrics(writer http.ResponseWriter, _ *http.Request) {
 	metric("sync_seconds", "summary", "How long it took to bring entries to the disk.")
 	fmt.Fprintf(&text, "faultyard_sync_seconds_sum %g\n", stats.Synced.Seconds())
 	fmt.Fprintf(&text, "faultyard_sync_seconds_count %d\n", stats.Syncs)
+	metric("sync_age_seconds", "gauge", "How long ago the disk answered a sync.")
+	fmt.Fprintf(&text, "faultyard_sync_age_seconds %g\n", web.Book.SyncAge().Seconds())
 	metric("processes", "gauge", "Processes in each state; one may be in several.")
 	for _, state := range states {
 		count := 0
-		for _, process := range its.Processes {
+		for _, process := range its {
 			if state.is(process.State) {
 				count++
 			}

@@ -1,0 +1,146 @@
+package book
+
+import (
+	"fmt"
+	"os"
+	"syscall"
+	"time"
+
+	"faultyard-serve/internal/panics"
+)
+
+const (
+	// freshFor is how long a sync says that the disk answers.
+	freshFor = 2 * time.Second
+	// lookEvery is how often it is looked whether the files are still there.
+	lookEvery = time.Second
+)
+
+// MostWait is how long the disk may take for a sync before it counts as one that doesn't answer.
+const MostWait = 5 * time.Second
+
+// place is a file, and the path at which it has to be found.
+type place struct {
+	path string
+	file os.FileInfo
+}
+
+// placeOf is the place of an open file.
+func placeOf(file *os.File) (place, error) {
+	info, err := file.Stat()
+	return place{file.Name(), info}, err
+}
+
+// isThere is nil where the file still has its name. Without it nobody would find what is written.
+func (its place) isThere() error {
+	found, err := os.Stat(its.path)
+	if err == nil && os.SameFile(found, its.file) {
+		return nil
+	}
+	return fmt.Errorf("%s was removed or replaced while the server ran", its.path)
+}
+
+// areThere says whether the audit and its events still have their names.
+func (book *Book) areThere() error {
+	for _, place := range book.places {
+		if err := place.isThere(); err != nil {
+			return err
+		}
+	}
+	return nil
+}
+
+// watch ends the book once a file is gone, also while nobody asks.
+func (book *Book) watch() {
+	looks := time.NewTicker(lookEvery)
+	defer looks.Stop()
+	for {
+		select {
+		case <-book.stopped:
+			return
+		case <-looks.C:
+			if err := book.areThere(); err != nil {
+				book.fail(err)
+			}
+		}
+	}
+}
+
+// health is what is known of the disk. The lock of the book guards it.
+type health struct {
+	answered time.Time     // when it answered a sync last
+	asked    time.Time     // since when it is written to; zero where it isn't
+	probe    chan struct{} // closed once the probe that runs has ended; nil where none does
+}
+
+// SyncAge is how long ago the disk answered a sync.
+func (book *Book) SyncAge() time.Duration {
+	book.lock.Lock()
+	defer book.lock.Unlock()
+	return time.Since(book.health.answered)
+}
+
+// Health is nil where the disk answered a sync just now, or does so within a time.
+func (book *Book) Health(within time.Duration) error {
+	if err := book.Stop(); err != nil {
+		return err
+	}
+	if book.SyncAge() < freshFor {
+		return nil
+	}
+	wait := time.NewTimer(within)
+	defer wait.Stop()
+	select {
+	case <-book.probed():
+		return book.Stop()
+	case <-wait.C:
+		return book.hangs()
+	}
+}
+
+// hangs is the error of a disk that doesn't answer.
+func (book *Book) hangs() error {
+	return fmt.Errorf("the disk has answered no sync for %.0f seconds", book.SyncAge().Seconds())
+}
+
+// isHanging says whether who waits for the disk waits for long.
+func (book *Book) isHanging() bool {
+	book.lock.Lock()
+	defer book.lock.Unlock()
+	asked := book.health.asked
+	return !asked.IsZero() && time.Since(asked) > MostWait
+}
+
+// probed has the disk asked, one probe at a time. The channel is closed once it answered.
+func (book *Book) probed() <-chan struct{} {
+	book.lock.Lock()
+	defer book.lock.Unlock()
+	if book.health.probe == nil {
+		done := make(chan struct{})
+		book.health.probe = done
+		go func() {
+			err := panics.Caught(book.ask)
+			book.lock.Lock()
+			defer book.lock.Unlock()
+			if err != nil {
+				book.halt(err)
+			} else {
+				book.health.answered = time.Now()
+			}
+			book.health.probe = nil
+			close(done)
+		}()
+	}
+	return book.health.probe
+}
+
+// ask has the disk keep when the events were looked at: a sync of what nothing changed asks it
+// nothing.
+func (book *Book) ask() error {
+	now := syscall.NsecToTimeval(time.Now().UnixNano())
+	file := book.events.file
+	if err := syscall.Futimes(int(file.Fd()), []syscall.Timeval{now, now}); err != nil {
+		return os.NewSyscallError("futimes", err)
+	}
+	return file.Sync()
+}
