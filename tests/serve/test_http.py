@@ -4,12 +4,14 @@ import http.client
 import json
 import random
 import re
+import signal
 import socket
 import ssl
 import subprocess
 import threading
 import time
 import xml.etree.ElementTree
+from pathlib import Path
 
 import common
 from common_serve import HEADER, PATIENCE, PROGRAM, REQUESTS
@@ -119,6 +121,7 @@ class Answers(Case):
         status, text = server.ask("GET", "/metrics")
         rows = dict(re.findall(r"^(faultyard_\S+) (\S+)$", text.decode(), re.M))
         self.assertEqual(rows["faultyard_entries"], "1")
+        self.assertEqual(rows["faultyard_journal_limit"], "1000000")
         self.assertEqual(rows['faultyard_processes{state="gone"}'], "1")
         self.assertEqual(rows['faultyard_http_requests_total{status="400"}'], "1")
         self.assertEqual(server.ask("GET", "/healthz"), (200, b'{"status":"ok"}\n'))
@@ -190,6 +193,78 @@ class Doors(Case):
         )  # fmt: skip
         self.assertEqual(wrong[0], 1)
         self.assertFalse((self.folder / "b").exists())
+
+    def test_tls_speaks_http_2(self):
+        files = certificate(self.folder)
+        server = self.server("--tls-cert", files[0], "--tls-key", files[1]).start()
+        url = f"https://{server.address}"
+        words = "curl", "-sS", "--http2", "--cacert", files[0], "-w", "%{http_version} %{http_code}"
+        act = "-H", "Content-Type: application/json", "-d", kill(0).decode(), f"{url}/v1/acts"
+        told = run(*words, *act)
+        self.assertEqual(told.stdout, server.file.read_text()[len(HEADER) :] + "2 200")
+        told = run(*words, "--http1.1", f"{url}/healthz")
+        self.assertEqual(told.stdout, '{"status":"ok"}\n1.1 200')
+
+    def test_a_request_without_tls_is_told_of_it(self):
+        files = certificate(self.folder)
+        server = self.server("--tls-cert", files[0], "--tls-key", files[1]).start()
+        for method, body in (("GET", None), ("POST", kill(0))):
+            status, text = server.ask(method, "/v1/acts", body)
+            self.assertEqual(status, 400)
+            self.assertEqual(json.loads(text)["error"], "the server speaks TLS here: ask by https")
+
+    def test_hangup_reads_tokens_and_certificates_again(self):
+        words = tokens(self.folder)
+        first = certificate(self.folder)
+        server = self.server(*words, "--tls-cert", first[0], "--tls-key", first[1]).start()
+        host, _, port = server.address.rpartition(":")
+
+        def served():
+            return ssl.get_server_certificate((host, int(port)))
+
+        def status(token):
+            context = ssl._create_unverified_context()
+            connection = http.client.HTTPSConnection(
+                server.address, timeout=PATIENCE, context=context
+            )
+            connection.request("GET", "/v1/status", headers={"Authorization": f"Bearer {token}"})
+            answer = connection.getresponse().status
+            connection.close()
+            return answer
+
+        def hang_up(said):
+            before = len(server.said.read_text())
+            server.process.send_signal(signal.SIGHUP)
+            until = time.monotonic() + PATIENCE
+            while said not in server.said.read_text()[before:]:
+                self.assertLess(time.monotonic(), until, server.said.read_text())
+                time.sleep(0.01)
+
+        old = served()
+        certificate(self.folder)
+        other, file = "new-new-new-new-new", Path(words[1])
+        file.write_text(f"{other} 1\n")
+        self.assertEqual((status(other), status("one-one-one-one-one")), (401, 200))
+        hang_up("tokens and certificate are read again")
+        self.assertEqual((status(other), status("one-one-one-one-one")), (200, 401))
+        self.assertNotEqual(served(), old)
+        file.write_text("short 1\n")
+        hang_up("line 1: a token has 16 to 512 bytes; tokens and certificate stay as they were")
+        self.assertEqual(status(other), 200)
+        self.assertEqual(server.end(), 0)
+
+    def test_the_idle_go_for_those_who_ask(self):
+        server = self.server().start()
+        idle = []
+        for _ in range(256):
+            client = http.client.HTTPConnection(server.address, timeout=PATIENCE)
+            client.request("GET", "/healthz")
+            self.assertEqual(client.getresponse().read(), b'{"status":"ok"}\n')
+            idle.append(client)
+        for number in range(50):
+            self.assertEqual(server.ask("POST", "/v1/acts", kill(number % 6))[0], 200)
+        for client in idle:
+            client.close()
 
     def test_a_port_that_is_taken_is_told(self):
         server = self.server().start()

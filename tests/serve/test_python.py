@@ -4,7 +4,7 @@ import threading
 
 import common
 import faultyard
-from common_serve import Case, up
+from common_serve import PATIENCE, Case, certificate, up
 from faultyard import Guard, Key, Kind
 
 TOKENS = {0: "zero-zero-zero-zero", 1: "one-one-one-one-one"}
@@ -54,6 +54,18 @@ class Guards(Case):
         with self.assertRaisesRegex(faultyard.AuditExists, "held by another guard"):
             Guard(server.config, server=str(server.socket), folder=server.file.parent)
         self.assertEqual(server.file.read_bytes(), before)
+
+    def test_a_port_is_asked_as_it_speaks(self):
+        files = certificate(self.folder)
+        words = "--tls-cert", files[0], "--tls-key", files[1]
+        for words, scheme, why in (
+            (words, "http", "the server speaks TLS there: ask by https"),
+            ((), "https", "the server speaks no TLS there: ask by http"),
+        ):
+            server = self.server(*words).start()
+            with self.assertRaisesRegex(faultyard.ProtocolError, f"{server.address}.*: {why}"):
+                Guard(server.config, server=f"{scheme}://{server.address}", timeout=PATIENCE)
+            self.assertEqual(server.end(), 0)
 
     def test_a_full_journal_a_wrong_token_and_no_server(self):
         path = common.written(self.folder, "tokens", "")

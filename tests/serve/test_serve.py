@@ -455,7 +455,7 @@ class Crashes(Case):
         self.assertEqual(sorted(places), list(range(len(entries))))
 
     def test_signals_end_it_with_status_0(self):
-        for number in (signal.SIGTERM, signal.SIGINT, signal.SIGHUP):
+        for number in (signal.SIGTERM, signal.SIGINT):
             server = self.server().start()
             talk = server.talk()
             answer = talk.ask(kill(0))

@@ -13,6 +13,10 @@ import (
 	"os/exec"
 	"os/signal"
 	"path/filepath"
+	"regexp"
+	"strconv"
+	"strings"
+	"sync/atomic"
 	"syscall"
 	"time"
 
@@ -71,16 +75,18 @@ type server struct {
 	lines  *door.Lines
 	web    *door.Web
 	http   *http.Server
-	// certificate is nil without TLS.
-	certificate *tls.Config
+	// tokens and pair are nil where there are none.
+	tokens *door.Tokens
+	pair   atomic.Pointer[tls.Certificate]
 	// socket and network are nil where nobody is let in there.
 	socket, network net.Listener
 }
 
 // serve answers until a signal ends the server, or the disk fails.
 func serve(words *words) error {
-	signals := make(chan os.Signal, 1)
-	signal.Notify(signals, syscall.SIGTERM, syscall.SIGINT, syscall.SIGHUP)
+	signals, again := make(chan os.Signal, 1), make(chan os.Signal, 1)
+	signal.Notify(signals, syscall.SIGTERM, syscall.SIGINT)
+	signal.Notify(again, syscall.SIGHUP)
 	signal.Ignore(syscall.SIGXFSZ) // A limit of a file is an error of the write.
 	// And so is a standard error that nobody reads. What isn't ignored, no program inherits.
 	signal.Notify(make(chan os.Signal, 1), syscall.SIGPIPE)
@@ -100,16 +106,34 @@ func serve(words *words) error {
 	}
 	say(its.ready())
 	notify("READY=1")
-	select {
-	case <-signals:
-		// A disk may take long. Another signal ends the server at once, as a kill does.
-		signal.Stop(signals)
-		return its.book.Close()
-	case <-its.book.Stopped():
-		return its.book.Stop()
-	case err := <-failed:
-		return err
+	for {
+		select {
+		case <-again:
+			its.readAgain()
+		case <-signals:
+			// A disk may take long. Another signal ends the server at once, as a kill does.
+			signal.Stop(signals)
+			return its.book.Close()
+		case <-its.book.Stopped():
+			return its.book.Stop()
+		case err := <-failed:
+			return err
+		}
 	}
+}
+
+// readAgain reads the tokens and the certificate again. Where one is refused, both stay.
+func (its *server) readAgain() {
+	tokens, pair, err := its.words.secrets()
+	if err != nil {
+		say(err.Error() + "; tokens and certificate stay as they were")
+		return
+	}
+	if tokens != nil {
+		its.tokens.Become(tokens)
+	}
+	its.pair.Store(pair)
+	say("tokens and certificate are read again")
 }
 
 // open opens the guard, and goes on with its audit.
@@ -123,24 +147,21 @@ func (its *server) open() (err error) {
 		return ofLibrary(err)
 	}
 	begun.Close()
-	var tokens *door.Tokens
-	if its.words.tokens != "" {
-		if tokens, err = door.ReadTokens(its.words.tokens); err != nil {
-			return failure{refused, err.Error()}
-		}
-	}
-	if err := its.readCertificate(); err != nil {
+	tokens, pair, err := its.words.secrets()
+	if err != nil {
 		return failure{refused, err.Error()}
 	}
+	its.tokens = tokens
+	its.pair.Store(pair)
 	if err := its.goOn(); err != nil {
 		return err
 	}
 	processes := cluster.Processes(its.config, places{its.guard})
 	its.lines = &door.Lines{Book: its.book, Most: mostConnected}
 	its.web = &door.Web{
-		Book: its.book, Processes: processes, Guard: places{its.guard}, Tokens: tokens,
+		Book: its.book, Processes: processes, Guard: places{its.guard}, Tokens: its.tokens,
 		Program: program(its.config), Version: libraryVersion(), Lines: its.lines,
-		Most: mostConnected, Say: say,
+		Most: mostConnected, Say: say, JournalLimit: journalLimit(its.config), Beat: beat(),
 	}
 	return nil
 }
@@ -169,16 +190,54 @@ func (its *server) after(audit []byte) (book.Guard, error) {
 	return library{guard}, nil
 }
 
-// readCertificate reads the files of TLS, where there are any.
-func (its *server) readCertificate() error {
+// secrets reads the files of tokens and of TLS, where there are any.
+func (its *words) secrets() (tokens *door.Tokens, pair *tls.Certificate, err error) {
+	if its.tokens != "" {
+		if tokens, err = door.ReadTokens(its.tokens); err != nil {
+			return nil, nil, err
+		}
+	}
+	if its.certificate != "" {
+		read, err := tls.LoadX509KeyPair(its.certificate, its.privateKey)
+		if err != nil {
+			return nil, nil, err
+		}
+		pair = &read
+	}
+	return tokens, pair, nil
+}
+
+// tls is how TLS is spoken, or nil.
+func (its *server) tls() *tls.Config {
 	if its.words.certificate == "" {
 		return nil
 	}
-	pair, err := tls.LoadX509KeyPair(its.words.certificate, its.words.privateKey)
-	its.certificate = &tls.Config{
-		Certificates: []tls.Certificate{pair}, MinVersion: tls.VersionTLS12,
+	return &tls.Config{
+		MinVersion: tls.VersionTLS12,
+		NextProtos: []string{"h2", "http/1.1"},
+		GetCertificate: func(*tls.ClientHelloInfo) (*tls.Certificate, error) {
+			return its.pair.Load(), nil
+		},
 	}
-	return err
+}
+
+// limits finds the limit of the journal in a cluster file that the library has taken.
+var limits = regexp.MustCompile(`(?m)^[ \t]*"?journal_limit"?[ \t]*=[ \t]*([0-9A-Za-z_+]+)`)
+
+// journalLimit is how many entries there may be. The library doesn't tell it.
+func journalLimit(config []byte) int {
+	found := limits.FindSubmatch(config)
+	if found == nil {
+		return 0
+	}
+	limit, _ := strconv.ParseInt(strings.TrimPrefix(string(found[1]), "+"), 0, 32)
+	return int(limit)
+}
+
+// beat is how often streams of events show that the server is there, where a test says so.
+func beat() time.Duration {
+	milliseconds, _ := strconv.Atoi(os.Getenv("FAULTYARD_SERVE_BEAT"))
+	return time.Duration(milliseconds) * time.Millisecond
 }
 
 // listen opens the doors.
@@ -192,11 +251,8 @@ func (its *server) listen() (err error) {
 	if its.network, err = net.Listen(networkOf(its.words.listen), its.words.listen); err != nil {
 		return err
 	}
-	its.network = its.web.Limited(its.network)
-	its.http = its.web.Server(its.certificate)
-	if its.certificate != nil {
-		its.network = tls.NewListener(its.network, its.certificate)
-	}
+	its.network = its.web.Limited(its.network, its.tls())
+	its.http = its.web.Server(its.tls())
 	return nil
 }
 

@@ -22,6 +22,11 @@ from .transport import HEADER
 
 AGAIN = 0.05
 """How many seconds pass before a server that is gone is asked again."""
+AWAY = 502, 503, 504
+"""The statuses of a server that ends, and of a proxy whose server isn't there."""
+SPEAKS_TLS = "the server speaks TLS there: ask by https"
+ALERT = "\x15\x03"
+"""What a server of TLS begins with that is asked without."""
 Tokens = Mapping[int, str]
 _Answer = TypeVar("_Answer")
 
@@ -192,6 +197,7 @@ class _Web(_Door):
             kind = http.client.HTTPConnection  # type: ignore[assignment]
         self._connection = kind(found.netloc, timeout=timeout)
         self._tokens = tokens
+        self._url, self._path = url, found.path.rstrip("/")
 
     def act(self, text: bytes, key: str) -> bytes:
         by = json.loads(text)["by"]
@@ -216,23 +222,36 @@ class _Web(_Door):
     ) -> bytes:
         token = self._tokens.get(by) if by is not None else next(iter(self._tokens.values()), None)
         named = dict(headers, **({"Authorization": f"Bearer {token}"} if token else {}))
+        path = self._path + path
         try:
             self._connection.request(method, path, body, named)
             answer = self._connection.getresponse()
             text = answer.read()
-        except ssl.SSLCertVerificationError as fault:
-            # Asked again, it would have the same certificate.
-            why = f"{fault.verify_message}; SSL_CERT_FILE names what is trusted"
-            raise ProtocolError(f"{method} {path}: {why}") from None
         except (OSError, http.client.HTTPException) as fault:
+            never = _never_else(fault)
+            if never is not None:
+                raise ProtocolError(f"{self._url}: {never}") from None
             raise Gone(str(fault)) from None
         if answer.status == 200:
             return text
         why = f"status {answer.status}"
         with suppress(ValueError, KeyError, TypeError):
             why = json.loads(text)["error"]
-        if answer.status == 503:
+        if answer.status in AWAY:
             raise Gone(why)
-        if answer.status in (400, 413, 422, 507):
+        if answer.status in (400, 413, 422, 507) and why.startswith("script: "):
             _refused(why)
+        if answer.status == 400 and (b"HTTPS" in text or b"TLS" in text):
+            raise ProtocolError(f"{self._url}: {SPEAKS_TLS}")
         raise ProtocolError(f"{method} {path}: {why}")
+
+
+def _never_else(fault: Exception) -> Optional[str]:
+    """What is wrong, where the server would answer the same if it were asked again."""
+    if isinstance(fault, ssl.SSLCertVerificationError):
+        return f"{fault.verify_message}; SSL_CERT_FILE names what is trusted"
+    if isinstance(fault, ssl.SSLError) and fault.reason == "WRONG_VERSION_NUMBER":
+        return "the server speaks no TLS there: ask by http"
+    if isinstance(fault, http.client.BadStatusLine) and str(fault).startswith(ALERT):
+        return SPEAKS_TLS
+    return None

@@ -51,6 +51,9 @@ func readAsk(ask Ask) (asked, Fault) {
 	return asked{line: line, once: string(members["by"]) + " " + key}, ""
 }
 
+// IsOnce says whether a text may be the key of an act.
+func IsOnce(key string) bool { return onceNames.MatchString(key) }
+
 // mostReply is how many bytes the line of an entry has at most more than that of its act.
 const mostReply = 128
 

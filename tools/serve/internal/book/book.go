@@ -191,8 +191,8 @@ func (book *Book) handOn(served []*Party) {
 }
 
 // View calls a function while nobody acts and all that was done is on the disk. Where the disk
-// failed, the guard has acts that aren't there: then it isn't called, and the error says why. Nor is
-// it where the disk doesn't answer.
+// failed, the guard has acts that aren't there: then it isn't called, and the error says why. Nor
+// is it where the disk doesn't answer.
 func (book *Book) View(look func()) (err error) {
 	if book.isHanging() {
 		return book.hangs()

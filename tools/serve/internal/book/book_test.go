@@ -593,7 +593,8 @@ func TestEntriesAreReadInParts(test *testing.T) {
 			wanted += entry(at, at+1)
 		}
 		lines, next, err := book.Entries(row.from, row.to, row.most)
-		same(test, fmt.Sprint(row), fmt.Sprint(string(lines), next, err), fmt.Sprint(wanted, row.next, nil))
+		told := fmt.Sprint(string(lines), next, err)
+		same(test, fmt.Sprint(row), told, fmt.Sprint(wanted, row.next, nil))
 	}
 	_ = book.Close()
 }

@@ -16,8 +16,8 @@ const (
 
 var castagnoli = crc32.MakeTable(crc32.Castagnoli)
 
-// sum is the sum of the lines of a file so far. Files of earlier servers begin with lines that state
-// none, which are summed up too.
+// sum is the sum of the lines of a file so far. Files of earlier servers begin with lines that
+// state none, which are summed up too.
 type sum struct {
 	value    uint32
 	isStated bool
@@ -59,8 +59,8 @@ func isUnwritten(text []byte, from int) bool {
 	return len(bytes.Trim(rest, "\x00")) == 0
 }
 
-// hasKey says whether there is a line with the key of an entry that is there. It was synced, and all
-// before it.
+// hasKey says whether there is a line with the key of an entry that is there. It was synced, and
+// all before it.
 func hasKey(text []byte, count int) bool {
 	for _, line := range bytes.Split(text, []byte("\n")) {
 		var event event

@@ -5,6 +5,7 @@ import (
 	"embed"
 	"encoding/json"
 	"errors"
+	"fmt"
 	"io"
 	"mime"
 	"net/http"
@@ -39,7 +40,14 @@ func (web *Web) act(writer http.ResponseWriter, request *http.Request) {
 		fail(writer, http.StatusUnsupportedMediaType, "the body has to be application/json")
 		return
 	}
+	key, err := onceOf(request)
+	if err != nil {
+		failOf(writer, err)
+		return
+	}
+	patience(request, bodySeconds)
 	body, err := io.ReadAll(http.MaxBytesReader(writer, request.Body, mostLine))
+	patience(request, answerSeconds)
 	var tooLarge *http.MaxBytesError
 	switch {
 	case errors.As(err, &tooLarge):
@@ -55,7 +63,7 @@ func (web *Web) act(writer http.ResponseWriter, request *http.Request) {
 		return
 	}
 	turn := book.NewTurn()
-	turn.Asks = []book.Ask{{Line: line, Once: request.Header.Get("Idempotency-Key")}}
+	turn.Asks = []book.Ask{{Line: line, Once: key}}
 	web.Book.Submit(turn)
 	answer := turn.Answers[0]
 	if answer.Err != nil {
@@ -67,6 +75,26 @@ func (web *Web) act(writer http.ResponseWriter, request *http.Request) {
 		writer.Header().Set("Idempotency-Replayed", "true")
 	}
 	_, _ = writer.Write(answer.Line)
+}
+
+// onceOf is the key of the act that a request asks for, if it has one. It may stand in quotes, as
+// in the draft of that header.
+func onceOf(request *http.Request) (key string, err error) {
+	keys := request.Header.Values("Idempotency-Key")
+	switch {
+	case len(keys) == 0:
+		return "", nil
+	case len(keys) > 1:
+		return "", book.OnceName
+	}
+	key = keys[0]
+	if len(key) > 1 && key[0] == '"' && key[len(key)-1] == '"' {
+		key = key[1 : len(key)-1]
+	}
+	if !book.IsOnce(key) {
+		return "", book.OnceName
+	}
+	return key, nil
 }
 
 // lineOf is the line of the act that a body asks for, by the actor of the request's token. It says
@@ -113,13 +141,14 @@ func (web *Web) status(writer http.ResponseWriter, _ *http.Request) {
 // state is what the page shows of the processes.
 type state struct {
 	Version   string            `json:"version"`
+	Audit     string            `json:"audit"`
 	Entries   int               `json:"entries"`
 	Processes []cluster.Process `json:"processes"`
 }
 
 // state is the state that is on the disk.
 func (web *Web) state() (its state, err error) {
-	its.Version = web.Version
+	its.Version, its.Audit = web.Version, web.Book.ID()
 	err = web.Book.View(func() {
 		its.Entries, its.Processes = web.Book.Stats().Entries, web.seen()
 	})
@@ -225,27 +254,21 @@ func (web *Web) events(writer http.ResponseWriter, request *http.Request) {
 		return
 	}
 	writer.Header().Set("Content-Type", "text/event-stream")
+	writer.Header().Set("X-Accel-Buffering", "no") // Else a proxy keeps what comes.
 	writer.WriteHeader(http.StatusOK)
 	if request.Method == http.MethodHead {
 		return
 	}
 	staysOpen(request)
-	// So that a client that is gone is seen.
-	still := time.NewTicker(idleSeconds / 4)
+	if _, err := fmt.Fprintf(writer, hello, web.Book.ID(), web.silence().Milliseconds()); err != nil {
+		return
+	}
+	still := time.NewTicker(web.beat())
 	defer still.Stop()
-	for {
+	for web.mayStay(request) {
 		stats, grown := web.Book.Grown()
-		patience(request, answerSeconds)
-		for at < stats.Entries {
-			lines, next, err := web.Book.Entries(at, stats.Entries, enoughOutput)
-			if err != nil {
-				return
-			}
-			patience(request, answerSeconds)
-			if _, err := writer.Write(eventsOf(lines, at)); err != nil {
-				return
-			}
-			at = next
+		if at, err = web.sendEvents(writer, request, at, stats.Entries); err != nil {
+			return
 		}
 		flusher.Flush()
 		select {
@@ -255,11 +278,57 @@ func (web *Web) events(writer http.ResponseWriter, request *http.Request) {
 		case <-web.Book.Stopped():
 			return
 		case <-still.C:
+			patience(request, answerSeconds)
 			if _, err := io.WriteString(writer, ": still here\n\n"); err != nil {
 				return
 			}
 		}
 	}
+}
+
+// hello is the first event of a stream: whose entries follow, and after how many milliseconds in
+// which nothing comes the server is gone.
+const hello = "event: audit\ndata: {\"audit\":\"%s\",\"silence\":%d}\n\n"
+
+// usualBeat is how often a stream says that the server is there.
+const usualBeat = 3 * time.Second
+
+func (web *Web) beat() time.Duration {
+	if web.Beat > 0 {
+		return web.Beat
+	}
+	return usualBeat
+}
+
+// silence is how long nothing comes of a server that is gone.
+func (web *Web) silence() time.Duration { return web.beat() * 10 / 3 }
+
+// mayStay says whether the token of a stream is still known.
+func (web *Web) mayStay(request *http.Request) bool {
+	if web.Tokens == nil {
+		return true
+	}
+	_, known := web.Tokens.actorOf(request)
+	return known
+}
+
+// sendEvents sends the events of entries, and answers the one behind them.
+func (web *Web) sendEvents(
+	writer http.ResponseWriter, request *http.Request, at, count int,
+) (int, error) {
+	patience(request, answerSeconds)
+	for at < count {
+		lines, next, err := web.Book.Entries(at, count, enoughOutput)
+		if err != nil {
+			return at, err
+		}
+		patience(request, answerSeconds)
+		if _, err := writer.Write(eventsOf(lines, at)); err != nil {
+			return at, err
+		}
+		at = next
+	}
+	return at, nil
 }
 
 // eventsOf is the events of lines, of which the first is that of an entry.

@@ -3,6 +3,7 @@ package door
 import (
 	"bufio"
 	"bytes"
+	"context"
 	"encoding/json"
 	"errors"
 	"fmt"
@@ -282,6 +283,18 @@ func apiCases(test *testing.T) map[string][]*httptest.ResponseRecorder {
 	for _, route := range routes[:8] {
 		add(web, up, route.method+" "+route.path, "Host: example.org")
 	}
+	for _, route := range routes[:10] {
+		last := httptest.NewRequest(route.method, route.path, nil)
+		late := &guest{crowd: &web.crowd, isLast: route.path != "/healthz"}
+		last = last.WithContext(context.WithValue(last.Context(), connectionKey{}, net.Conn(late)))
+		refused := httptest.NewRecorder()
+		if late.isLast {
+			web.dispatch(refused, last)
+			told[route.method+" "+route.path] = append(told[route.method+" "+route.path], refused)
+		}
+		answer := ask(web, "", "PATCH "+route.path)
+		told[route.method+" "+route.path] = append(told[route.method+" "+route.path], answer)
+	}
 	tokens := withTokens(test, begin(test, 2))
 	for _, route := range routes[:8] {
 		add(tokens, up, route.method+" "+route.path)
@@ -337,7 +350,7 @@ func TestTheDescriptionIsWhatTheHandlersAnswer(test *testing.T) {
 				continue
 			}
 			var value any = answer.Body.String()
-			if kind == "application/json" {
+			if kind == "application/json" || kind == problemKind {
 				if err := json.Unmarshal(answer.Body.Bytes(), &value); err != nil {
 					test.Errorf("%s: %v", name, err)
 				}
@@ -550,6 +563,14 @@ func TestEventsComeAsTheyAreMade(test *testing.T) {
 			test.Fatal(err)
 		}
 		lines := bufio.NewReader(answer.Body)
+		kind, _ := lines.ReadString('\n')
+		text, _ := lines.ReadString('\n')
+		_, _ = lines.ReadString('\n')
+		const form = `data: {"audit":"%s","silence":10000}`
+		wanted := fmt.Sprintf("event: audit\n"+form+"\n", web.Book.ID())
+		same(test, "whose", kind+text, wanted)
+		same(test, "no proxy keeps it", answer.Header.Get("X-Accel-Buffering"), "no")
+		same(test, "the audit", answer.Header.Get("Faultyard-Audit"), web.Book.ID())
 		from := 0
 		if last != "" {
 			from = 1
@@ -585,7 +606,8 @@ func TestTheProgramReadsWhatIsOnTheDisk(test *testing.T) {
 	web.Program = script(test, "echo why >&2; exit 5")
 	same(test, "a kept answer", ask(web, "", "GET /picture.svg").Code, 200)
 	ask(web, up, "POST /v1/acts")
-	same(test, "a new one", ask(web, "", "GET /picture.svg").Body.String(), "{\"error\":\"why\"}\n")
+	told = ask(web, "", "GET /picture.svg").Body.String()
+	same(test, "a new one", told, string(problemOf(503, "why")))
 }
 
 // talk sends texts to a socket of a web, closes the sending half, and answers what comes.
@@ -836,37 +858,222 @@ func TestASocketIsItsOwnersAndTakesTheRoomOfADeadOne(test *testing.T) {
 	same(test, "a file", err, path+" is there, and is no socket")
 }
 
-func TestNoMoreAreConnectedThanMayBe(test *testing.T) {
-	web := begin(test, 100)
+// crowded is a web with its limits, at its address.
+func crowded(test *testing.T, web *Web) (address string) {
 	server := httptest.NewUnstartedServer(web)
-	server.Listener = web.Limited(server.Listener)
+	server.Listener = web.Limited(server.Listener, nil)
 	server.Config = web.Server(nil)
 	server.Start()
-	defer server.Close()
-	var held []net.Conn
-	for number := int32(0); number < web.Most; number++ {
-		connection, err := net.Dial("tcp", server.Listener.Addr().String())
+	test.Cleanup(server.Close)
+	return server.Listener.Addr().String()
+}
+
+// one is a client that keeps its connection.
+type one struct {
+	net.Conn
+	heard *bufio.Reader
+}
+
+func come(test *testing.T, address string) *one {
+	connection, err := net.Dial("tcp", address)
+	if err != nil {
+		test.Fatal(err)
+	}
+	test.Cleanup(func() { _ = connection.Close() })
+	return &one{connection, bufio.NewReader(connection)}
+}
+
+// asks is the status that it is answered, or 0 where it was let go.
+func (its *one) asks(path string, headers ...string) int {
+	headers = append(headers, "Host: 127.0.0.1")
+	const form = "GET %s HTTP/1.1\r\n%s\r\n\r\n"
+	if _, err := fmt.Fprintf(its, form, path, strings.Join(headers, "\r\n")); err != nil {
+		return 0
+	}
+	answer, err := http.ReadResponse(its.heard, nil)
+	if err != nil {
+		return 0
+	}
+	if path != "/v1/events" {
+		_, _ = io.ReadAll(answer.Body)
+	}
+	return answer.StatusCode
+}
+
+func TestTheIdleGoWhereTooManyAreConnected(test *testing.T) {
+	web := begin(test, 100)
+	web.Most = 16
+	address := crowded(test, web)
+	var idle []*one
+	for number := 0; number < 16; number++ {
+		idle = append(idle, come(test, address))
+		same(test, "one who will be idle", idle[number].asks("/healthz"), 200)
+	}
+	for number := 0; number < 100; number++ {
+		same(test, "a good client", come(test, address).asks("/v1/status"), 200)
+	}
+	same(test, "who is connected", web.crowd.count() <= 16, true)
+	same(test, "the first went", idle[0].asks("/healthz"), 0)
+}
+
+func TestTheLastPlacesAreForTokensAndHealth(test *testing.T) {
+	web := withTokens(test, begin(test, 100))
+	web.Most = 16
+	address := crowded(test, web)
+	const token = "Authorization: Bearer one-one-one-one-one"
+	for number := 0; number < 14; number++ {
+		same(test, "one who is busy", come(test, address).asks("/v1/events", token), 200)
+	}
+	same(test, "one without a token", come(test, address).asks("/v1/status"), 503)
+	same(test, "the page", come(test, address).asks("/"), 503)
+	same(test, "health", come(test, address).asks("/healthz"), 200)
+	kept := come(test, address)
+	same(test, "one with a token", kept.asks("/v1/status", token), 200)
+	same(test, "and again", kept.asks("/v1/status", token), 200)
+	for number := 0; number < 40; number++ {
+		come(test, address).asks("/healthz")
+	}
+	same(test, "and behind many", kept.asks("/v1/status", token), 200)
+}
+
+func TestAnAddressHasItsPart(test *testing.T) {
+	var its crowd
+	comes := func(address string) *guest {
+		end, _ := net.Pipe()
+		return its.admit(from{end, address}, 16, true)
+	}
+	var others []*guest
+	for number := 0; number < 8; number++ {
+		other := comes("10.0.0.1:1")
+		other.begins()
+		others = append(others, other)
+	}
+	same(test, "one too many of an address", comes("10.0.0.1:2") == nil, true)
+	same(test, "another's", comes("10.0.0.2:2") != nil, true)
+	others[0].knows(true, false)
+	same(test, "one with a token doesn't count", comes("10.0.0.1:3") != nil, true)
+	others[1].ends()
+	same(test, "for one that is idle", comes("10.0.0.1:4") != nil, true)
+	same(test, "who are connected", its.count(), 10)
+}
+
+// from is a connection from an address.
+type from struct {
+	net.Conn
+	address string
+}
+
+func (its from) RemoteAddr() net.Addr { return its }
+func (its from) Network() string      { return "tcp" }
+func (its from) String() string       { return its.address }
+
+func TestWhoCantBeReadIsAnsweredAProblem(test *testing.T) {
+	address := crowded(test, begin(test, 100))
+	for _, row := range []struct {
+		request string
+		status  int
+	}{
+		{"x\r\n\r\n", 400},
+		{"GET / HTTP/1.1\r\n\r\n", 400},
+		{"GET / HTTP/1.1\r\nHost: a\r\nX: " + strings.Repeat("x", 40_000) + "\r\n\r\n", 431},
+		{"GET / HTTP/1.1\r\nHost: a\r\nTransfer-Encoding: gzip\r\n\r\n", 501},
+		{"GET / HTTP/9.9\r\nHost: a\r\n\r\n", 505},
+	} {
+		client := come(test, address)
+		_, _ = io.WriteString(client, row.request)
+		answer, err := http.ReadResponse(client.heard, nil)
 		if err != nil {
 			test.Fatal(err)
 		}
-		held = append(held, connection)
+		var told problem
+		err = json.NewDecoder(answer.Body).Decode(&told)
+		same(test, "its form", err, nil)
+		same(test, "its type", answer.Header.Get("Content-Type"), problemKind)
+		same(test, "its status", answer.StatusCode, row.status)
+		same(test, "its member", told.Status, row.status)
+		same(test, "what is said", told.Error != "" && told.Error == told.Detail, true)
+		same(test, "it is closed", answer.Close, true)
 	}
-	for web.count.Load() < web.Most {
-		time.Sleep(time.Millisecond)
+}
+
+func TestALengthBesideChunksClosesTheConnection(test *testing.T) {
+	client := come(test, crowded(test, begin(test, 100)))
+	const head = "POST /v1/acts HTTP/1.1\r\nHost: localhost\r\nContent-Type: application/json\r\n" +
+		"Content-Length: 4\r\nTransfer-Encoding: chunked\r\n\r\n%x\r\n%s\r\n0\r\n\r\n"
+	fmt.Fprintf(client, head, len(up), up)
+	answer, err := http.ReadResponse(client.heard, nil)
+	same(test, "the answer", fmt.Sprint(answer.StatusCode, answer.Close, err), "200 true <nil>")
+	_, _ = io.ReadAll(answer.Body)
+	_, err = client.heard.ReadByte()
+	same(test, "then", err, io.EOF)
+}
+
+func TestAKeyMayStandInQuotes(test *testing.T) {
+	web := begin(test, 100)
+	first := ask(web, up, "POST /v1/acts", `Idempotency-Key: "7f3a"`)
+	same(test, "in quotes", first.Code, 200)
+	again := ask(web, up, "POST /v1/acts", "Idempotency-Key: 7f3a")
+	same(test, "without", again.Header().Get("Idempotency-Replayed"), "true")
+	for _, key := range []string{`"`, `""`, `"a b"`, `"a`, `a"`, `""a""`} {
+		same(test, key, ask(web, up, "POST /v1/acts", "Idempotency-Key: "+key).Code, 400)
 	}
-	if answer, err := http.Get(server.URL + "/healthz"); err == nil {
-		test.Errorf("one too many was answered %d", answer.StatusCode)
+	request := httptest.NewRequest("POST", "/v1/acts", strings.NewReader(up))
+	request.Host = "localhost"
+	request.Header.Set("Content-Type", "application/json")
+	request.Header["Idempotency-Key"] = []string{"a", "b"}
+	answer := httptest.NewRecorder()
+	web.ServeHTTP(answer, request)
+	same(test, "two keys", answer.Code, 400)
+	same(test, "the entries", web.Book.Stats().Entries, 1)
+}
+
+func TestWhatAProxyHandsOnNeedsAToken(test *testing.T) {
+	web, tokens := begin(test, 100), withTokens(test, begin(test, 100))
+	const token = "Authorization: Bearer one-one-one-one-one"
+	for _, header := range []string{
+		"Forwarded: for=10.0.0.1", "Via: 1.1 proxy", "X-Forwarded-For: 10.0.0.1",
+		"X-Forwarded-Host: example.org", "X-Real-IP: 10.0.0.1", "X-Forwarded-Proto: https",
+		"Origin: http://example.org", "Origin: null",
+	} {
+		same(test, header, ask(web, up, "POST /v1/acts", header).Code, 403)
+		same(test, header, ask(web, "", "GET /v1/status", header).Code, 403)
+		same(test, header+" and a token", ask(tokens, up, "POST /v1/acts", header, token).Code, 200)
 	}
-	for _, connection := range held {
-		_ = connection.Close()
+	request := httptest.NewRequest("POST", "/v1/acts", strings.NewReader(up))
+	request.Host, request.ProtoMajor, request.ProtoMinor = "127.0.0.1:7077", 1, 0
+	request.Header.Set("Content-Type", "application/json")
+	answer := httptest.NewRecorder()
+	web.ServeHTTP(answer, request)
+	same(test, "as nginx asks", answer.Code, 403)
+	same(test, "the entries", web.Book.Stats().Entries, 0)
+	own := ask(web, up, "POST /v1/acts", "Origin: http://localhost:7077")
+	same(test, "its own page", own.Code, 200)
+}
+
+func TestTokensThatAreReadAgainAreTheOnlyOnes(test *testing.T) {
+	web := withTokens(test, begin(test, 100))
+	web.Beat = time.Millisecond
+	server := httptest.NewServer(web)
+	defer server.Close()
+	request, _ := http.NewRequest("GET", server.URL+"/v1/events", nil)
+	request.Header.Set("Authorization", "Bearer one-one-one-one-one")
+	answer, err := http.DefaultClient.Do(request)
+	if err != nil {
+		test.Fatal(err)
 	}
-	for web.count.Load() > 0 {
-		time.Sleep(time.Millisecond)
+	defer answer.Body.Close()
+	other := new(Tokens)
+	_ = other.add("new-new-new-new-new 1")
+	web.Tokens.Become(other)
+	for _, row := range []struct {
+		token  string
+		status int
+	}{{"one-one-one-one-one", 401}, {"new-new-new-new-new", 200}} {
+		status := ask(web, "", "GET /v1/status", "Authorization: Bearer "+row.token).Code
+		same(test, row.token, status, row.status)
 	}
-	answer, err := http.Get(server.URL + "/healthz")
-	if err != nil || answer.StatusCode != 200 {
-		test.Errorf("then %v, %v", answer, err)
-	}
+	_, err = io.ReadAll(answer.Body) // The stream ends.
+	same(test, "a stream of one that is gone", err, nil)
 }
 
 func TestTheMetricsAreThePrometheusFormat(test *testing.T) {
@@ -908,7 +1115,7 @@ func TestAPanicOfAHandlerIsToldAndEndsNobodyElse(test *testing.T) {
 	its.broken = "it breaks"
 	answer := ask(web, "", "GET /v1/status")
 	same(test, "the status", answer.Code, 500)
-	same(test, "the answer", answer.Body, "{\"error\":\"the server is at fault\"}\n")
+	same(test, "the answer", answer.Body, string(problemOf(500, "the server is at fault")))
 	first, where, _ := strings.Cut(strings.Join(said, ""), "\n")
 	same(test, "what is said", first, "GET /v1/status: panic: it breaks")
 	same(test, "where", strings.Contains(where, "door.(*guard).State("), true)
@@ -983,11 +1190,11 @@ func TestReadersNeverAskTheGuard(test *testing.T) {
 		if err != nil {
 			test.Fatal(err)
 		}
-		if text := bytes.TrimPrefix(line, []byte("data: ")); len(text) < len(line) {
-			events = append(events, text...)
+		if bytes.HasPrefix(line, []byte(`data: {"act"`)) {
+			events = append(events, line[len("data: "):]...)
 		}
 	}
-	same(test, "the events", string(events), string(all))
+	same(test, "the events", bytes.Equal(events, all), true)
 }
 
 func TestOneWhoAsksOnlyForTheHeadOfEventsIsAnswered(test *testing.T) {

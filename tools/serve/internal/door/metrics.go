@@ -51,8 +51,8 @@ var states = []struct {
 	{"gone", func(its cluster.State) bool { return its.Gone }},
 }
 
-// metrics answers counts in the text format of Prometheus. It doesn't wait for the disk, of which it
-// tells.
+// metrics answers counts in the text format of Prometheus. It doesn't wait for the disk, of which
+// it tells.
 func (web *Web) metrics(writer http.ResponseWriter, _ *http.Request) {
 	var text strings.Builder
 	metric := func(name, kind, help string) {
@@ -67,6 +67,8 @@ func (web *Web) metrics(writer http.ResponseWriter, _ *http.Request) {
 	stats := web.Book.Stats()
 	metric("entries", "gauge", "Entries of the audit.")
 	fmt.Fprintf(&text, "faultyard_entries %d\n", stats.Entries)
+	metric("journal_limit", "gauge", "Entries that the journal may have.")
+	fmt.Fprintf(&text, "faultyard_journal_limit %d\n", web.JournalLimit)
 	metric("acts_total", "counter", "Acts that were asked for, by what came of them.")
 	for _, row := range []struct {
 		word  string
@@ -91,7 +93,7 @@ func (web *Web) metrics(writer http.ResponseWriter, _ *http.Request) {
 	}
 	metric("connections", "gauge", "Clients that are connected.")
 	fmt.Fprintf(&text, "faultyard_connections{door=\"socket\"} %d\n", web.Lines.Count())
-	fmt.Fprintf(&text, "faultyard_connections{door=\"http\"} %d\n", web.count.Load())
+	fmt.Fprintf(&text, "faultyard_connections{door=\"http\"} %d\n", web.crowd.count())
 	metric("http_requests_total", "counter", "Requests that were answered, by the status.")
 	web.requests.each(func(status int, count uint64) {
 		fmt.Fprintf(&text, "faultyard_http_requests_total{status=\"%d\"} %d\n", status, count)

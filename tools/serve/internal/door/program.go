@@ -145,6 +145,7 @@ func (web *Web) drawn(
 		return
 	}
 	entries := web.Book.Stats().Entries
+	waits(request)
 	text, err := kept.get(request.Context(), entries, func() ([]byte, error) {
 		audit, times, err := web.Book.Drawn()
 		if err != nil {

@@ -10,6 +10,7 @@ import (
 	"os"
 	"strconv"
 	"strings"
+	"sync"
 )
 
 const (
@@ -22,6 +23,7 @@ const (
 
 // Tokens says which actor a token is of. A token is kept as its digest alone.
 type Tokens struct {
+	lock    sync.RWMutex
 	digests [][sha256.Size]byte
 	actors  []int
 }
@@ -56,6 +58,13 @@ func ReadTokens(path string) (*Tokens, error) {
 		return nil, fmt.Errorf("%s: there is no token", path)
 	}
 	return tokens, nil
+}
+
+// Become makes them others, for requests that come from now on.
+func (tokens *Tokens) Become(other *Tokens) {
+	tokens.lock.Lock()
+	defer tokens.lock.Unlock()
+	tokens.digests, tokens.actors = other.digests, other.actors
 }
 
 // add takes in a line of the file.
@@ -97,6 +106,8 @@ func (tokens *Tokens) actorOf(request *http.Request) (actor int, known bool) {
 		return 0, false
 	}
 	digest := sha256.Sum256([]byte(strings.TrimSpace(token)))
+	tokens.lock.RLock()
+	defer tokens.lock.RUnlock()
 	found := -1
 	for at := range tokens.digests {
 		same := subtle.ConstantTimeCompare(tokens.digests[at][:], digest[:])

@@ -9,7 +9,6 @@ import (
 	"net"
 	"net/http"
 	"strings"
-	"sync/atomic"
 	"time"
 
 	"faultyard-serve/internal/book"
@@ -37,13 +36,17 @@ type Web struct {
 	// Program draws pictures and says what may be lost.
 	Program *Program
 	Version string
+	// JournalLimit is how many entries there may be.
+	JournalLimit int
 	// Lines is the other door, whose clients are counted too.
 	Lines *Lines
 	// Most is how many may be connected at once.
 	Most int32
 	// Say tells what went wrong in the server itself.
-	Say      func(what string)
-	count    atomic.Int32
+	Say func(what string)
+	// Beat is how often a stream of events says that the server is there, if not every 3 seconds.
+	Beat     time.Duration
+	crowd    crowd
 	requests requests
 	pictures cache
 	losses   cache
@@ -78,7 +81,7 @@ var routes = []route{
 // connectionKey finds the connection of a request in its context.
 type connectionKey struct{}
 
-// Server is the server of these answers, with its limits.
+// Server is the server of these answers, with its limits. Its listener is Limited.
 func (web *Web) Server(certificate *tls.Config) *http.Server {
 	return &http.Server{
 		Handler:           web,
@@ -87,9 +90,7 @@ func (web *Web) Server(certificate *tls.Config) *http.Server {
 		ReadHeaderTimeout: headerSeconds,
 		ReadTimeout:       bodySeconds,
 		IdleTimeout:       idleSeconds,
-		// One connection for each client, so that its limits hold.
-		TLSNextProto: map[string]func(*http.Server, *tls.Conn, http.Handler){},
-		ErrorLog:     log.New(nowhere{}, "", 0),
+		ErrorLog:          log.New(nowhere{}, "", 0),
 		ConnContext: func(context_ context.Context, connection net.Conn) context.Context {
 			return context.WithValue(context_, connectionKey{}, connection)
 		},
@@ -101,44 +102,6 @@ type nowhere struct{}
 
 func (nowhere) Write(text []byte) (int, error) { return len(text), nil }
 
-// Limited is a listener that turns away whoever comes when too many are connected.
-func (web *Web) Limited(listener net.Listener) net.Listener { return &limited{listener, web} }
-
-type limited struct {
-	net.Listener
-	web *Web
-}
-
-// Accept waits for one who may come in.
-func (its *limited) Accept() (net.Conn, error) {
-	for {
-		connection, err := its.Listener.Accept()
-		if err != nil {
-			return nil, err
-		}
-		if its.web.count.Add(1) <= its.web.Most {
-			return &counted{Conn: connection, count: &its.web.count}, nil
-		}
-		its.web.count.Add(-1)
-		_ = connection.Close()
-	}
-}
-
-// counted is a connection that is counted until it is closed.
-type counted struct {
-	net.Conn
-	count  *atomic.Int32
-	closed atomic.Bool
-}
-
-// Close closes the connection.
-func (its *counted) Close() error {
-	if its.closed.CompareAndSwap(false, true) {
-		its.count.Add(-1)
-	}
-	return its.Conn.Close()
-}
-
 // ServeHTTP answers a request.
 func (web *Web) ServeHTTP(writer http.ResponseWriter, request *http.Request) {
 	its := &told{ResponseWriter: writer, status: http.StatusOK}
@@ -148,6 +111,7 @@ func (web *Web) ServeHTTP(writer http.ResponseWriter, request *http.Request) {
 			web.breaks(its, request, why)
 		}
 	}()
+	defer web.watch(&request)()
 	patience(request, answerSeconds)
 	header := its.Header()
 	header.Set("Cache-Control", "no-store")
@@ -156,6 +120,10 @@ func (web *Web) ServeHTTP(writer http.ResponseWriter, request *http.Request) {
 	header.Set("Content-Security-Policy",
 		"default-src 'self'; style-src 'self' 'unsafe-inline'; img-src data:; "+
 			"frame-ancestors 'none'; base-uri 'none'; form-action 'self'")
+	if len(request.TransferEncoding) > 0 {
+		// A length beside it, as only one who means ill sends it, has been taken out by now.
+		header.Set("Connection", "close")
+	}
 	web.dispatch(its, request)
 }
 
@@ -210,7 +178,7 @@ func (web *Web) dispatch(writer http.ResponseWriter, request *http.Request) {
 			allowed = append(allowed, route.method)
 			continue
 		}
-		if !route.open && !web.mayEnter(writer, request) {
+		if !web.hasPlace(writer, request) || !route.open && !web.mayEnter(writer, request) {
 			return
 		}
 		route.answer(web, writer, request)
@@ -224,57 +192,11 @@ func (web *Web) dispatch(writer http.ResponseWriter, request *http.Request) {
 	fail(writer, http.StatusNotFound, "there is no such path")
 }
 
-// actorKey finds the actor of a request in its context.
-type actorKey struct{}
-
-// mayEnter asks for a token. Without a file of tokens only this machine gets here. A page of
-// another server, whose name was changed to this machine's address, is turned away.
-func (web *Web) mayEnter(writer http.ResponseWriter, request *http.Request) bool {
-	if web.Tokens == nil {
-		if isLoopback(request.Host) {
-			return true
-		}
-		fail(writer, http.StatusForbidden, "the host of the request isn't this machine")
-		return false
-	}
-	actor, known := web.Tokens.actorOf(request)
-	if !known {
-		writer.Header().Set("WWW-Authenticate", `Bearer realm="faultyard"`)
-		fail(writer, http.StatusUnauthorized, "the request has no token that is known")
-		return false
-	}
-	*request = *request.WithContext(context.WithValue(request.Context(), actorKey{}, actor))
-	return true
-}
-
-// isLoopback says whether a host, with its port or without, is this machine.
-func isLoopback(host string) bool {
-	name := host
-	if split, _, err := net.SplitHostPort(host); err == nil {
-		name = split
-	}
-	name = strings.TrimSuffix(strings.TrimPrefix(name, "["), "]")
-	address := net.ParseIP(name)
-	return name == "localhost" || address != nil && address.IsLoopback()
-}
-
-// patience is how long the client may take from now on to take its answer.
-func patience(request *http.Request, seconds time.Duration) {
-	if connection, is := request.Context().Value(connectionKey{}).(net.Conn); is {
-		_ = connection.SetWriteDeadline(time.Now().Add(seconds))
-	}
-}
-
-// staysOpen lets a client say nothing for as long as it is answered.
-func staysOpen(request *http.Request) {
-	if connection, is := request.Context().Value(connectionKey{}).(net.Conn); is {
-		_ = connection.SetReadDeadline(time.Time{})
-	}
-}
-
 // fail answers an error.
 func fail(writer http.ResponseWriter, status int, why string) {
-	writeJSON(writer, status, map[string]string{"error": why})
+	writer.Header().Set("Content-Type", problemKind)
+	writer.WriteHeader(status)
+	_, _ = writer.Write(problemOf(status, why)) // Whoever is gone needs no answer.
 }
 
 // failOf answers what went wrong with an act or a view.
