@@ -386,7 +386,7 @@ def archive_has_a_unit_that_systemd_accepts() -> None:
     made.write_text(text.replace("ExecStart=", f"ExecStart={unpacked()}/bin/"))
     assert said("systemd-analyze", "verify", "--man=no", made) == ""
     # In tenths: 20 of 100 is what systemd calls OK, and 90 a unit without a limit.
-    said("systemd-analyze", "security", "--offline=true", "--no-pager", "--threshold=25", made)
+    said("systemd-analyze", "security", "--offline=true", "--no-pager", "--threshold=15", made)
 
 
 def archive_serves_cpp_and_go() -> None:

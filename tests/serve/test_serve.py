@@ -29,6 +29,7 @@ class Words(Case):
         self.assertEqual((told.returncode, told.stdout), (0, wanted))
 
     def test_wrong_words_are_refused_before_anything_is_touched(self):
+        mode = "--socket-mode takes three octal digits, as 0660"
         loopback = "without --tokens, --listen takes an address of the loopback"
         for words, why in (
             ([], "one cluster file is needed"),
@@ -40,6 +41,8 @@ class Words(Case):
             (["a", "--audit", "x", "--listen", "7077"], "--listen takes HOST:PORT"),
             (["a", "--audit", "x", "--listen", "0.0.0.0:0"], loopback),
             (["a", "--audit", "x", "--listen", ":0"], loopback),
+            (["a", "--audit", "x", "--socket-mode", "0888"], mode),
+            (["a", "--audit", "x", "--socket-mode", "1777"], mode),
             (["a", "--audit", "x", "--nothing"], "flag provided but not defined: --nothing"),
         ):
             ran = run(built(), *words, cwd=self.folder)
@@ -267,6 +270,12 @@ class Files(Case):
                 self.assertEqual(server.end(), 0)
                 for path in self.folder.glob("audit*"):
                     path.unlink()
+
+    def test_its_socket_has_the_mode_that_is_given(self):
+        for words, mode in ((), 0o600), (("--socket-mode", "0660"), 0o660):
+            server = self.server(*words, http=False).start()
+            self.assertEqual(server.socket.stat().st_mode & 0o777, mode)
+            self.assertEqual(server.end(), 0)
 
     def test_one_server_at_a_time_holds_a_file(self):
         server = self.server(http=False).start()

@@ -242,7 +242,7 @@ func beat() time.Duration {
 
 // listen opens the doors.
 func (its *server) listen() (err error) {
-	if its.socket, err = door.ListenSocket(its.words.socket); err != nil {
+	if its.socket, err = door.ListenSocket(its.words.socket, its.words.socketMode); err != nil {
 		return err
 	}
 	if its.words.listen == "" {

@@ -6,7 +6,9 @@ import (
 	"flag"
 	"fmt"
 	"io"
+	"io/fs"
 	"net"
+	"strconv"
 	"strings"
 
 	"faultyard"
@@ -18,6 +20,7 @@ var help string
 // words is what the command line says.
 type words struct {
 	config, audit, socket   string
+	socketMode              fs.FileMode
 	listen, tokens          string
 	certificate, privateKey string
 }
@@ -35,6 +38,7 @@ func parsed(arguments []string, out io.Writer) (*words, error) {
 		flags.StringVar(value, name, "", "")
 	}
 	flags.BoolVar(&version, "version", false, "")
+	mode := flags.String("socket-mode", "0600", "")
 	var names []string
 	for rest := arguments; ; {
 		err := flags.Parse(rest)
@@ -55,6 +59,11 @@ func parsed(arguments []string, out io.Writer) (*words, error) {
 		_, err := fmt.Fprintf(out, "faultyard-serve %s\n", libraryVersion())
 		return nil, err
 	}
+	number, err := strconv.ParseUint(*mode, 8, 32)
+	if err != nil || number&^0o777 != 0 {
+		return nil, wrongWords("--socket-mode takes three octal digits, as 0660")
+	}
+	its.socketMode = fs.FileMode(number)
 	return its.complete(names)
 }
 

@@ -613,7 +613,7 @@ func TestTheProgramReadsWhatIsOnTheDisk(test *testing.T) {
 // talk sends texts to a socket of a web, closes the sending half, and answers what comes.
 func talk(test *testing.T, web *Web, texts ...string) string {
 	path := filepath.Join(test.TempDir(), "socket")
-	listener, err := ListenSocket(path)
+	listener, err := ListenSocket(path, 0o600)
 	if err != nil {
 		test.Fatal(err)
 	}
@@ -687,7 +687,7 @@ func TestMuchIsAskedBeforeAnythingIsRead(test *testing.T) {
 	const clients, acts = 6, 1000
 	web := begin(test, clients*(acts+1))
 	path := filepath.Join(test.TempDir(), "socket")
-	listener, err := ListenSocket(path)
+	listener, err := ListenSocket(path, 0o600)
 	if err != nil {
 		test.Fatal(err)
 	}
@@ -779,7 +779,7 @@ func hears(test *testing.T, lines []string, acts int) {
 func TestOneIsAloneAndThenBesideOthers(test *testing.T) {
 	web := begin(test, 10_000)
 	path := filepath.Join(test.TempDir(), "socket")
-	listener, err := ListenSocket(path)
+	listener, err := ListenSocket(path, 0o600)
 	if err != nil {
 		test.Fatal(err)
 	}
@@ -835,17 +835,17 @@ func TestOneIsAloneAndThenBesideOthers(test *testing.T) {
 
 func TestASocketIsItsOwnersAndTakesTheRoomOfADeadOne(test *testing.T) {
 	path := filepath.Join(test.TempDir(), "socket")
-	listener, err := ListenSocket(path)
+	listener, err := ListenSocket(path, 0o600)
 	if err != nil {
 		test.Fatal(err)
 	}
 	info, _ := os.Stat(path)
 	same(test, "its mode", info.Mode().Perm(), os.FileMode(0o600))
-	_, err = ListenSocket(path)
+	_, err = ListenSocket(path, 0o600)
 	same(test, "a second", err, path+": another server listens there")
 	listener.(*net.UnixListener).SetUnlinkOnClose(false)
 	_ = listener.Close()
-	if listener, err = ListenSocket(path); err != nil {
+	if listener, err = ListenSocket(path, 0o600); err != nil {
 		test.Fatal(err)
 	}
 	_ = listener.Close()
@@ -854,7 +854,7 @@ func TestASocketIsItsOwnersAndTakesTheRoomOfADeadOne(test *testing.T) {
 	if err := os.WriteFile(path, nil, 0o600); err != nil {
 		test.Fatal(err)
 	}
-	_, err = ListenSocket(path)
+	_, err = ListenSocket(path, 0o600)
 	same(test, "a file", err, path+" is there, and is no socket")
 }
 

@@ -14,8 +14,13 @@ import (
 	"time"
 )
 
-// handshakeSeconds is how long a client may take to begin TLS.
-const handshakeSeconds = 5 * time.Second
+const (
+	// handshakeSeconds is how long a client may take to begin TLS.
+	handshakeSeconds = 5 * time.Second
+	// mostUnsent is how many bytes the system holds for a client that doesn't read. It would take
+	// some millions, which many such clients have made and copied before anybody else is served.
+	mostUnsent = 1 << 17
+)
 
 // Limited is a listener that turns away whoever comes when too many are connected, and speaks TLS
 // where there is a certificate.
@@ -73,6 +78,9 @@ func (its *limited) admit() (*guest, error) {
 		connection, err := its.Listener.Accept()
 		if err != nil {
 			return nil, err
+		}
+		if tcp, is := connection.(*net.TCPConn); is {
+			_ = tcp.SetWriteBuffer(mostUnsent) // If not, it takes more memory.
 		}
 		comer := its.web.crowd.admit(connection, int(its.web.Most), its.web.Tokens != nil)
 		if comer != nil {

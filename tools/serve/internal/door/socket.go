@@ -6,6 +6,7 @@ import (
 	"encoding/json"
 	"errors"
 	"fmt"
+	"io/fs"
 	"net"
 	"os"
 	"sync/atomic"
@@ -30,9 +31,9 @@ type Lines struct {
 // Count is how many are connected.
 func (lines *Lines) Count() int { return int(lines.count.Load()) }
 
-// ListenSocket makes a Unix socket that its owner alone may connect to. One that is left from a
-// server that was killed is removed first.
-func ListenSocket(path string) (net.Listener, error) {
+// ListenSocket makes a Unix socket of a mode, as 0600 for one that its owner alone may connect to.
+// One that is left from a server that was killed is removed first.
+func ListenSocket(path string, mode fs.FileMode) (net.Listener, error) {
 	if info, err := os.Lstat(path); err == nil {
 		if info.Mode()&os.ModeSocket == 0 {
 			return nil, fmt.Errorf("%s is there, and is no socket", path)
@@ -49,7 +50,7 @@ func ListenSocket(path string) (net.Listener, error) {
 			return nil, err
 		}
 	}
-	mask := syscall.Umask(0o177)
+	mask := syscall.Umask(int(0o777 &^ mode))
 	defer syscall.Umask(mask)
 	return net.Listen("unix", path)
 }

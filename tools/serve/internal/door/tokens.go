@@ -8,6 +8,7 @@ import (
 	"fmt"
 	"net/http"
 	"os"
+	"path/filepath"
 	"strconv"
 	"strings"
 	"sync"
@@ -41,7 +42,13 @@ func ReadTokens(path string) (*Tokens, error) {
 	if err != nil {
 		return nil, err
 	}
-	if mode := info.Mode().Perm(); mode&0o077 != 0 {
+	// systemd lets the user of a unit read a credential by an access list, which shows as its group.
+	others := os.FileMode(0o077)
+	folder := os.Getenv("CREDENTIALS_DIRECTORY")
+	if folder != "" && filepath.Dir(path) == filepath.Clean(folder) {
+		others = 0o037
+	}
+	if mode := info.Mode().Perm(); mode&others != 0 {
 		return nil, fmt.Errorf("%s: its mode is %04o, and has to be 0600", path, mode)
 	}
 	tokens := new(Tokens)

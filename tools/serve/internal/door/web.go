@@ -76,6 +76,7 @@ var routes = []route{
 	{"GET", "/", asset("page.html", "text/html; charset=utf-8"), true},
 	{"GET", "/page.css", asset("page.css", "text/css; charset=utf-8"), true},
 	{"GET", "/page.js", asset("page.js", "text/javascript; charset=utf-8"), true},
+	{"GET", "/page-stream.js", asset("page-stream.js", "text/javascript; charset=utf-8"), true},
 }
 
 // connectionKey finds the connection of a request in its context.

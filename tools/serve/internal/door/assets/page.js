@@ -1,10 +1,7 @@
 // Shows what a guard that many ask knows, as it changes.
 "use strict";
 
-const SHOWN = 100; // orders
-const STATE_PAUSE = 250; // milliseconds between two looks at the processes
-const PICTURE_PAUSE = 2000; // and between two pictures
-const AGAIN = 1500; // before a lost connection is tried again
+const PICTURE_PAUSE = 2000; // milliseconds between two pictures
 
 const at = (id) => document.getElementById(id);
 let names = [];
@@ -16,17 +13,6 @@ function make(tag, className, ...parts) {
   if (className) it.className = className;
   it.append(...parts);
   return it;
-}
-
-class NoToken extends Error {}
-
-/** What the server answers to a path. */
-async function ask(path, signal) {
-  const headers = token ? { Authorization: `Bearer ${token}` } : {};
-  const answer = await fetch(path, { headers, signal, cache: "no-store" });
-  if (answer.status === 401) throw new NoToken();
-  if (!answer.ok) throw new Error((await answer.json()).error);
-  return answer;
 }
 
 const named = (process) => names[process] || `process ${process}`;
@@ -82,19 +68,17 @@ function statesOf(its) {
 
 const mark = (state, text) => make("span", `state ${state}`, `${SIGNS[state]} ${text}`);
 
-async function showState() {
-  const state = await (await ask("v1/status")).json();
+function showState(state) {
   names = state.processes.map((it) => it.processid);
-  const rows = state.processes.map((it) => make("tr", "",
-    ...[it.number, it.processid, it.machineid, it.zoneid].map((text) => make("td", "", text)),
-    make("td", "", ...statesOf(it).map((word) => mark(word, word)))));
+  const rows = state.processes.map((it) => make("tr", "", make("td", "", it.number),
+    make("td", "", ...statesOf(it).map((word) => mark(word, word))),
+    ...[it.processid, it.machineid, it.zoneid].map((text) => make("td", "", text))));
   at("processes").replaceChildren(...rows);
   const counted = Object.keys(SIGNS).map((word) => {
     const count = state.processes.filter((it) => statesOf(it).includes(word)).length;
     return make("li", "", mark(word, `${count} ${word}`));
   });
   at("counts").replaceChildren(...counted);
-  return state.entries;
 }
 
 const GROUPS = {
@@ -117,7 +101,7 @@ function lossInWords(loss) {
 }
 
 async function showLosses() {
-  const bears = await (await ask("v1/bears")).json();
+  const bears = await (await ask("v1/bears", token)).json();
   at("losses").replaceChildren(...bears.losses.flatMap(lossInWords));
 }
 
@@ -161,7 +145,7 @@ function partsOf(picture) {
 }
 
 async function showPicture() {
-  const text = await (await ask("picture.svg")).text();
+  const text = await (await ask("picture.svg", token)).text();
   const picture = new DOMParser().parseFromString(text, "image/svg+xml").documentElement;
   // The styles of the picture stay in it.
   const root = at("picture").shadowRoot || at("picture").attachShadow({ mode: "open" });
@@ -171,63 +155,10 @@ async function showPicture() {
   if (atEnd) at("picture").scrollLeft = at("picture").scrollWidth;
 }
 
-/** Has something looked at again soon, and never twice at once. */
-function soon(pause, look, where) {
-  let waits = false;
-  let runs = false;
-  return async function again() {
-    waits = true;
-    if (runs) return;
-    runs = true;
-    while (waits) {
-      waits = false;
-      try {
-        await look();
-      } catch (error) {
-        if (where && !(error instanceof NoToken)) {
-          at(where).replaceChildren(make("p", "none", error.message));
-        }
-      }
-      await new Promise((done) => setTimeout(done, pause));
-    }
-    runs = false;
-  };
-}
-
-const stateSoon = soon(STATE_PAUSE, showState);
-const lossesSoon = soon(PICTURE_PAUSE, showLosses, "losses");
+const lossesSoon = soon(PICTURE_PAUSE, showLosses, (error) => {
+  at("losses").replaceChildren(make("p", "none", error.message));
+});
 const pictureSoon = soon(PICTURE_PAUSE, showPicture);
-
-/**
- * Shows each entry that comes, and answers the number behind the last one once the server is gone.
- */
-async function follow(from) {
-  const answer = await ask(`v1/events?from=${from}`);
-  const reader = answer.body.pipeThrough(new TextDecoderStream()).getReader();
-  let next = from;
-  let text = "";
-  live(next);
-  for (;;) {
-    const { value, done } = await reader.read().catch(() => ({ done: true }));
-    if (done) return next;
-    const events = (text + value).split("\n\n");
-    text = events.pop();
-    for (const event of events) {
-      const data = event.split("\n").find((line) => line.startsWith("data: "));
-      if (!data) continue;
-      const entry = JSON.parse(data.slice(6));
-      next = entry.at + 1;
-      showEntry(entry);
-    }
-    live(next);
-    for (const look of [stateSoon, lossesSoon, pictureSoon]) look();
-  }
-}
-
-function live(entries) {
-  at("live").textContent = `live, ${entries} ${entries === 1 ? "entry" : "entries"}`;
-  at("live").className = "";
-}
 
 /** Shows the form for a token, or what is behind it. */
 function enter(may) {
@@ -235,38 +166,60 @@ function enter(may) {
   at("main").hidden = !may;
   if (may) return;
   at("live").textContent = "a token is needed";
+  at("live").className = "";
   at("wrong").textContent = token ? "The server doesn't know this token." : "";
   at("token").focus();
 }
 
-async function main() {
-  let next = -1;
-  for (;;) {
-    try {
-      const entries = await showState();
-      enter(true);
-      if (next < 0 || next > entries) {
-        at("orders-body").replaceChildren();
-        next = Math.max(0, entries - SHOWN);
-      }
-      lossesSoon();
-      pictureSoon();
-      next = await follow(next);
-    } catch (error) {
-      if (error instanceof NoToken) return enter(false);
-    }
-    at("live").textContent = "the connection is lost; trying again";
-    at("live").className = "lost";
-    await new Promise((done) => setTimeout(done, AGAIN));
-  }
+function sayLive(text, className) {
+  at("live").textContent = text;
+  at("live").className = className;
 }
+
+const since = (moment) => new Date(moment).toLocaleTimeString();
+
+/** What is shown for each kind of message of the stream. */
+const TOLD = {
+  begun: () => {},
+  token: () => enter(false),
+  anew: () => at("orders-body").replaceChildren(),
+  state({ state }) {
+    enter(true);
+    showState(state);
+    lossesSoon();
+    pictureSoon();
+  },
+  entries: ({ entries }) => entries.forEach(showEntry),
+  live: ({ entries }) => sayLive(`live, ${entries} ${entries === 1 ? "entry" : "entries"}`, ""),
+  silent: (its) => sayLive(`nothing was heard since ${since(its.since)}`, "lost"),
+  lost: (its) => sayLive(`the connection is lost since ${since(its.since)}; trying again`, "lost"),
+};
+const told = (message) => TOLD[message.kind](message);
+
+/** Has the page told what comes, by the stream of all tabs if there may be one. */
+function connect() {
+  if (!window.SharedWorker) {
+    let leave = () => {};
+    return () => {
+      leave();
+      leave = follow(token, told);
+    };
+  }
+  const { port } = new SharedWorker("page-stream.js", "faultyard");
+  port.onmessage = ({ data }) => told(data);
+  addEventListener("pagehide", () => port.postMessage({ bye: true }));
+  addEventListener("pageshow", (event) => event.persisted && port.postMessage({ token }));
+  return () => port.postMessage({ token });
+}
+
+const enterBy = connect();
 
 at("door").addEventListener("submit", (event) => {
   event.preventDefault();
   if (at("door").hidden) return; // It was sent already.
   at("door").hidden = true;
-  token = at("token").value;
+  token = at("token").value.trim();
   sessionStorage.setItem("token", token);
-  main();
+  enterBy();
 });
-main();
+enterBy();
