@@ -64,8 +64,8 @@ func (its *crowd) admit(connection net.Conn, most int, isEach bool) *guest {
 	return comer
 }
 
-// makeRoom has fewer than so many of an address connected, or of all, those with a token apart where
-// there is an address. It says whether that went.
+// makeRoom has fewer than so many of an address connected, or of all, those with a token apart
+// where there is an address. It says whether that went.
 func (its *crowd) makeRoom(most int, address string) bool {
 	for {
 		count, idle := its.idlest(address)

@@ -192,6 +192,7 @@ func problemOf(status int, why string) []byte {
 // plainProblem is the whole answer of an error.
 func plainProblem(status int, why string) []byte {
 	body := problemOf(status, why)
-	const form = "HTTP/1.1 %d %s\r\nContent-Type: %s\r\nContent-Length: %d\r\nConnection: close\r\n\r\n%s"
+	const form = "HTTP/1.1 %d %s\r\nContent-Type: %s\r\nContent-Length: %d\r\n" +
+		"Connection: close\r\n\r\n%s"
 	return []byte(fmt.Sprintf(form, status, http.StatusText(status), problemKind, len(body), body))
 }

@@ -1,5 +1,5 @@
-// Follows the events of a guard. A browser gives a host six connections, so all tabs share a stream:
-// this file is their shared worker, and a page without one follows by itself.
+// Follows the events of a guard. A browser gives a host six connections, so all tabs share a
+// stream: this file is their shared worker, and a page without one follows by itself.
 "use strict";
 
 const SHOWN = 100; // orders
