@@ -1,6 +1,8 @@
 //! Why a command that judges a history stops before its work is done.
-ghost use Rattle.std.specs.Prelude.{◌≡◌};
-ghost use Rattle.fy_histories.specs.Stops.{histories_status};
+ghost use Rattle.std.specs.Prelude.{◌≡◌, OnOk, OnErr, IfErr};
+ghost use Rattle.std.specs.Io.KnownBytes.{Appends};
+ghost use Rattle.fy_lines.specs.Prefixes.{AppendsProperPrefix};
+ghost use Rattle.fy_histories.specs.Stops.{histories_status, fault_ending, histories_text};
 
 use fy_history::{HistoryFault, HistoryStop};
 use fy_lines::OutputFault;
@@ -18,24 +20,42 @@ pub enum HistoriesStop {
 }
 
 impl From<Stop> for HistoriesStop {
+    ghost use Rattle.fy_histories.specs.declared.stop.HistoriesStop.TheVariants.{Other};
+
+    ghost from_gives = { λ stop given. given ≡ Other stop };
+
     fn from(stop: Stop) -> HistoriesStop {
         HistoriesStop::Other(stop)
     }
 }
 
 impl From<AllocError> for HistoriesStop {
+    ghost use Rattle.fy_streams.specs.declared.stop.Stop.TheVariants.{NoMemory};
+    ghost use Rattle.fy_histories.specs.declared.stop.HistoriesStop.TheVariants.{Other};
+
+    ghost from_gives = { λ _ given. given ≡ Other NoMemory };
+
     fn from(_refused: AllocError) -> HistoriesStop {
         HistoriesStop::Other(Stop::NoMemory)
     }
 }
 
 impl From<OutputFault> for HistoriesStop {
+    ghost use Rattle.fy_streams.specs.declared.stop.Stop.TheVariants.{Write as write_fault};
+    ghost use Rattle.fy_histories.specs.declared.stop.HistoriesStop.TheVariants.{Other};
+
+    ghost from_gives = { λ _ given. given ≡ Other write_fault };
+
     fn from(_fault: OutputFault) -> HistoriesStop {
         HistoriesStop::Other(Stop::Write)
     }
 }
 
 impl From<HistoryStop> for HistoriesStop {
+    ghost use Rattle.fy_histories.specs.Stops.{history_stop};
+
+    ghost from_gives = { λ stop given. given ≡ history_stop stop };
+
     fn from(stop: HistoryStop) -> HistoriesStop {
         match stop {
             HistoryStop::Line { number, fault } => HistoriesStop::Line { number, fault },
@@ -58,7 +78,9 @@ impl HistoriesStop {
 }
 
 /// The end of the fault line for a fault.
-fn fault_ending(fault: HistoryFault) -> &'static str {
+fn fault_ending(fault: HistoryFault) -> &'static str
+    ensures { result.now ≡ fault_ending fault }
+{
     match fault {
         HistoryFault::TooLong => ": TooLong\n",
         HistoryFault::Syntax => ": Syntax\n",
@@ -78,7 +100,13 @@ fn fault_ending(fault: HistoryFault) -> &'static str {
 ///
 /// `Write` at the first call of `write` that fails or takes no byte; a front of the line is out
 /// then, and never all of it.
-pub fn write_histories_stop<W: Write>(stop: &HistoriesStop, writer: &mut W) -> Result<(), Stop> {
+pub fn write_histories_stop<W: Write>(stop: &HistoriesStop, writer: &mut W) -> Result<(), Stop>
+    ensures ok { OnOk result
+        (Appends (W.contents writer.old) (W.contents writer.new) (histories_text stop.now)) }
+    ensures err { OnErr result (AppendsProperPrefix (W.contents writer.old) (W.contents writer.new)
+        (histories_text stop.now)) }
+    ensures fault { IfErr result (λ fault. fault ≡ Stop.Write) }
+{
     match *stop {
         HistoriesStop::Line { number, fault } => {
             write_numbered(writer, "history: line ", u64::from(number), fault_ending(fault))?;

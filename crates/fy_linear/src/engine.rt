@@ -1,7 +1,14 @@
 //! The engine behind `faultyard linear`.
+ghost use Rattle.std.specs.Prelude.{◌≡◌, ◌≢◌, IfOk, IfErr, IfSome, Err};
+ghost use Rattle.std.specs.Io.KnownBytes.{Appends};
+ghost use Rattle.fy_lines.specs.Prefixes.{AppendsProperPrefix};
+ghost use Rattle.fy_histories.specs.Stops.{TellsHistory, IsHistoryStop};
+ghost use Rattle.fy_linear.specs.Linears.{Tells, any};
+
 use crate::judged::judge_history;
 use crate::spelling::Spelling;
 use fy_histories::HistoriesStop;
+use fy_streams::Stop;
 use fy_history::{Known, MOST_NODES, read_history};
 use fy_lines::write_bytes;
 use std::alloc::Global;
@@ -28,7 +35,16 @@ pub fn run_linear<S: Spelling, R: BufRead, W: Write>(
     form: &S,
     reader: &mut R,
     writer: &mut W,
-) -> Result<bool, HistoriesStop> {
+) -> Result<bool, HistoriesStop>
+    ensures done { IfOk result (λ done. IfSome (R.remaining reader.old) (λ bytes.
+        Tells bytes (S.spells form.now) done
+        (Appends (W.contents writer.old) (W.contents writer.new)))) }
+    ensures refused { IfErr result (λ stop. IfSome (R.remaining reader.old) (λ bytes.
+        TellsHistory any bytes stop)) }
+    ensures nothing_out { IfErr result (λ stop. stop ≢ HistoriesStop.Other Stop.Write →
+        W.contents writer.new ≡ W.contents writer.old) }
+    ensures no_other { IfErr result IsHistoryStop }
+{
     let history = read_history(alloc, ANY, reader)?;
     let judged = judge_history(alloc, &history)?;
     let text = form.spell(alloc, &history.names, &judged)?;

@@ -1,6 +1,9 @@
 //! The operations of a history, key by key.
+ghost use Rattle.std.specs.Prelude.{◌≡◌, ◌<◌, ◌≤◌, IfOk, length};
+
 use fy_history::{Answer, End, History, Read, Write};
 use fy_registers::{Act, Operation};
+use indexmap::IndexSet;
 use std::alloc::{AllocError, Global};
 
 /// An operation of a key. Its value is the number of a text of the history.
@@ -65,10 +68,14 @@ pub(crate) fn operations_of(alloc: Global, history: &History) -> Result<Vec<Keye
     Ok(operations)
 }
 
-/// How many of the first operations are of one key.
-pub(crate) fn same_key(operations: &[Keyed]) -> usize {
-    let mut count = 0;
-    while count < operations.len() && operations[count].key == operations[0].key {
+/// How many of the first operations are of a key that begin with one.
+pub(crate) fn same_key(key: u32, operations: &[Keyed]) -> usize
+    requires { 0 < length operations.now }
+    ensures some { 0 < result }
+    ensures within { result ≤ length operations.now }
+{
+    let mut count = 1;
+    while count < operations.len() && operations[count].key == key {
         count += 1;
     }
     count
@@ -77,44 +84,28 @@ pub(crate) fn same_key(operations: &[Keyed]) -> usize {
 /// Numbers of the values of one key, from 0 on.
 #[derive(Drop)]
 pub(crate) struct Numbers {
-    /// For each text the number of the value, from 1 on.
-    of_texts: Vec<u32>,
-    /// The text of each number.
-    texts: Vec<u32>,
+    numbers: IndexSet<u32>,
 }
 
 impl Numbers {
-    /// No value has a number yet, of so many texts.
-    pub(crate) fn new(alloc: Global, texts: usize) -> Result<Numbers, AllocError> {
-        Ok(Numbers {
-            of_texts: Vec::from_elem(alloc, 0, texts)?,
-            texts: Vec::new(alloc),
-        })
-    }
-
-    /// Forgets all numbers.
-    pub(crate) fn clear(&mut self) {
-        for text in &self.texts {
-            self.of_texts[*text as usize] = 0;
+    /// No value has a number yet.
+    pub(crate) fn new(alloc: Global) -> Numbers {
+        Numbers {
+            numbers: IndexSet::new(alloc),
         }
-        self.texts.clear();
     }
 
-    /// The texts of the numbers.
+    /// The texts of the numbers, in order.
     pub(crate) fn texts(&self) -> &[u32] {
-        &self.texts
+        self.numbers.as_slice()
     }
 
-    /// The number of a value.
+    /// The number of a value, which is that of a text.
     fn number(&mut self, text: u32) -> Result<u32, AllocError> {
-        let number = self.of_texts[text as usize];
-        if number > 0 {
-            return Ok(number - 1);
+        match self.numbers.insert_full(text) {
+            Ok((place, _)) => numbered(place),
+            Err(_) => Err(AllocError),
         }
-        self.texts.push(text)?;
-        let count = self.texts.len() as u32;
-        self.of_texts[text as usize] = count;
-        Ok(count - 1)
     }
 
     /// The operation with numbers in place of texts.
@@ -124,6 +115,20 @@ impl Numbers {
             Act::Read(Some(text)) => Act::Read(Some(self.number(text)?)),
             Act::Read(None) => Act::Read(None),
         };
-        Ok(Operation { act, ..operation })
+        Ok(Operation {
+            act,
+            began: operation.began,
+            ended: operation.ended,
+        })
+    }
+}
+
+/// A place as a number.
+fn numbered(place: usize) -> Result<u32, AllocError>
+    ensures { IfOk result (λ number. number ≡ place) }
+{
+    match u32::try_from(place) {
+        Ok(number) => Ok(number),
+        Err(_) => Err(AllocError),
     }
 }

@@ -8,12 +8,18 @@ use std::alloc::{AllocError, Global};
 
 /// A way to spell what was judged of a history. `spells` says which bytes stand for it.
 pub trait Spelling {
+    ghost use Rattle.std.specs.Prelude.{ℕ, List, IfOk};
+    ghost use Rattle.fy_linear.specs.declared.judged.Judged.{Judged};
+
+    ghost spells: { Self → List (List ℕ) → Judged → List ℕ → Type 0 };
+
     /// The bytes that stand for what was judged of a history of these names.
     ///
     /// # Errors
     ///
     /// An allocation failed.
-    fn spell(&self, alloc: Global, names: &Names, judged: &Judged) -> Result<Vec<u8>, AllocError>;
+    fn spell(&self, alloc: Global, names: &Names, judged: &Judged) -> Result<Vec<u8>, AllocError>
+        ensures { IfOk result (λ text. spells self.now names.now judged.now text.items) };
 }
 
 /// A line of JSON for each key that isn't linearizable, and a line of counts.
@@ -32,6 +38,14 @@ fn end_line(mut line: Writer) -> Result<Vec<u8>, AllocError> {
 fn write_count(line: &mut Writer, name: &str, count: usize) -> Result<(), AllocError> {
     line.key(name)?;
     line.u64(count as u64)
+}
+
+/// The text of a value, which is a place among these.
+fn value_text<'a>(names: &'a Names, values: &[u32], value: u32) -> &'a str {
+    match values.get(value as usize) {
+        Some(text) => names.text(*text),
+        None => "",
+    }
 }
 
 /// Writes an operation.
@@ -56,18 +70,18 @@ fn write_operation(
     })?;
     line.key("value")?;
     match operation.value() {
-        Some(value) => line.string(names.text(values[value as usize]))?,
+        Some(value) => line.string(value_text(names, values, value))?,
         None => line.null()?,
     }
     line.end_object()
 }
 
 /// The operations that show it: two, or twice two.
-fn shown(judgement: Judgement) -> (&'static str, [Option<Operation>; 4]) {
+fn shown(judgement: Option<Judgement>) -> (&'static str, [Option<Operation>; 4]) {
     match judgement {
-        Judgement::Linearizable => ("Linearizable", [None; 4]),
-        Judgement::Twice { one, other } => ("Twice", [Some(one), Some(other), None, None]),
-        Judgement::Not(evidence) => shown_by(evidence),
+        Some(Judgement::Not(evidence)) => shown_by(evidence),
+        Some(Judgement::Twice { one, other }) => ("Twice", [Some(one), Some(other), None, None]),
+        Some(Judgement::Linearizable) | None => ("Unordered", [None; 4]),
     }
 }
 
@@ -109,6 +123,9 @@ fn write_refuted(bytes: Vec<u8>, names: &Names, refuted: &Refuted) -> Result<Vec
 }
 
 impl Spelling for Jsonl {
+    // No definition says what the lines are.
+    ghost spells = { λ _ _ _ _. Unit };
+
     fn spell(&self, alloc: Global, names: &Names, judged: &Judged) -> Result<Vec<u8>, AllocError> {
         let mut bytes = Vec::new(alloc);
         for refuted in &judged.refuted {
@@ -118,7 +135,7 @@ impl Spelling for Jsonl {
         let mut line = Writer::new(bytes);
         line.begin_object()?;
         write_count(&mut line, "keys", judged.keys)?;
-        write_count(&mut line, "linearizable", judged.keys - not)?;
+        write_count(&mut line, "linearizable", judged.keys.saturating_sub(not))?;
         write_count(&mut line, "not", not)?;
         write_count(&mut line, "operations", judged.operations)?;
         end_line(line)
