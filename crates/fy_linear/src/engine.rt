@@ -49,5 +49,5 @@ pub fn run_linear<S: Spelling, R: BufRead, W: Write>(
     let judged = judge_history(alloc, &history)?;
     let text = form.spell(alloc, &history.names, &judged)?;
     write_bytes(writer, &text)?;
-    Ok(judged.refuted.is_empty())
+    Ok(judged.is_linearizable())
 }

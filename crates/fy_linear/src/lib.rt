@@ -7,5 +7,5 @@ mod operations;
 mod spelling;
 
 pub use engine::run_linear;
-pub use judged::{Judged, Refuted};
+pub use judged::Judged;
 pub use spelling::{Jsonl, Spelling};

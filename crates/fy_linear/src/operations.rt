@@ -1,17 +1,10 @@
-//! The operations of a history, key by key.
-ghost use Rattle.std.specs.Prelude.{◌≡◌, ◌<◌, ◌≤◌, IfOk, length};
+//! The operations of the registers of a history.
+ghost use Rattle.std.specs.Prelude.{◌≡◌, ◌<◌, All};
 
 use fy_history::{Answer, End, History, Read, Write};
-use fy_registers::{Act, Operation};
-use indexmap::IndexSet;
+use fy_registers::{Act, Keyed, Operation};
+use indexmap::IndexMap;
 use std::alloc::{AllocError, Global};
-
-/// An operation of a key. Its value is the number of a text of the history.
-#[derive(Clone, Copy, Debug, PartialEq, Eq)]
-pub(crate) struct Keyed {
-    pub(crate) key: u32,
-    pub(crate) operation: Operation,
-}
 
 /// The operation that a write is; none where it is known not to be done.
 fn write_operation(write: &Write) -> Option<Keyed> {
@@ -50,7 +43,8 @@ fn read_operation(read: &Read) -> Option<Keyed> {
     })
 }
 
-/// The operations of a history, those of each key together, in the order in which they began.
+/// The operations of a history in the order in which they began. Their values are the numbers of
+/// texts.
 pub(crate) fn operations_of(alloc: Global, history: &History) -> Result<Vec<Keyed>, AllocError> {
     let mut operations = Vec::new(alloc);
     for write in &history.writes {
@@ -64,71 +58,75 @@ pub(crate) fn operations_of(alloc: Global, history: &History) -> Result<Vec<Keye
         }
     }
     operations.sort_by_key(|keyed| keyed.operation.began)?;
-    operations.sort_by_key(|keyed| keyed.key)?;
     Ok(operations)
 }
 
-/// How many of the first operations are of a key that begin with one.
-pub(crate) fn same_key(key: u32, operations: &[Keyed]) -> usize
-    requires { 0 < length operations.now }
-    ensures some { 0 < result }
-    ensures within { result ≤ length operations.now }
-{
-    let mut count = 1;
-    while count < operations.len() && operations[count].key == key {
-        count += 1;
-    }
-    count
-}
-
-/// Numbers of the values of one key, from 0 on.
+/// Numbers of the values of each key, from 0 on.
 #[derive(Drop)]
-pub(crate) struct Numbers {
-    numbers: IndexSet<u32>,
+struct Numbers {
+    /// The number of a value of a key.
+    numbers: IndexMap<(u32, u32), u32>,
+    /// How many values of each key have a number.
+    counts: IndexMap<u32, u32>,
 }
 
 impl Numbers {
-    /// No value has a number yet.
-    pub(crate) fn new(alloc: Global) -> Numbers {
-        Numbers {
-            numbers: IndexSet::new(alloc),
+    /// The number of a value of a key, which gets its key's next one where it has none yet.
+    fn number(&mut self, key: u32, value: u32) -> Result<u32, AllocError> {
+        if let Some(number) = self.numbers.get(&(key, value)) {
+            return Ok(*number);
         }
-    }
-
-    /// The texts of the numbers, in order.
-    pub(crate) fn texts(&self) -> &[u32] {
-        self.numbers.as_slice()
-    }
-
-    /// The number of a value, which is that of a text.
-    fn number(&mut self, text: u32) -> Result<u32, AllocError> {
-        match self.numbers.insert_full(text) {
-            Ok((place, _)) => numbered(place),
+        let number = match self.counts.get(&key) {
+            Some(count) => *count,
+            None => 0,
+        };
+        if self.counts.insert(key, number.saturating_add(1)).is_err() {
+            return Err(AllocError);
+        }
+        match self.numbers.insert((key, value), number) {
+            Ok(_) => Ok(number),
             Err(_) => Err(AllocError),
         }
     }
 
-    /// The operation with numbers in place of texts.
-    pub(crate) fn numbered(&mut self, operation: Operation) -> Result<Operation, AllocError> {
-        let act = match operation.act {
-            Act::Write(text) => Act::Write(self.number(text)?),
-            Act::Read(Some(text)) => Act::Read(Some(self.number(text)?)),
-            Act::Read(None) => Act::Read(None),
-        };
-        Ok(Operation {
-            act,
-            began: operation.began,
-            ended: operation.ended,
-        })
+    /// What an operation of a key does, with a number in place of a text.
+    fn act(&mut self, key: u32, act: Act) -> Result<Act, AllocError> {
+        match act {
+            Act::Write(value) => Ok(Act::Write(self.number(key, value)?)),
+            Act::Read(Some(value)) => Ok(Act::Read(Some(self.number(key, value)?))),
+            Act::Read(None) => Ok(Act::Read(None)),
+        }
     }
 }
 
-/// A place as a number.
-fn numbered(place: usize) -> Result<u32, AllocError>
-    ensures { IfOk result (λ number. number ≡ place) }
-{
-    match u32::try_from(place) {
-        Ok(number) => Ok(number),
-        Err(_) => Err(AllocError),
+/// The operations with values from 0 on for each key.
+pub(crate) fn numbered(alloc: Global, operations: &[Keyed]) -> Result<Vec<Keyed>, AllocError> {
+    let mut numbers = Numbers {
+        numbers: IndexMap::new(alloc),
+        counts: IndexMap::new(alloc),
+    };
+    let mut numbered = Vec::new(alloc);
+    for keyed in operations {
+        let act = numbers.act(keyed.key, keyed.operation.act)?;
+        numbered.push(Keyed {
+            key: keyed.key,
+            operation: Operation {
+                act,
+                began: keyed.operation.began,
+                ended: keyed.operation.ended,
+            },
+        })?;
     }
+    Ok(numbered)
+}
+
+/// A number above all keys.
+pub(crate) fn key_count(operations: &[Keyed]) -> usize
+    ensures { All (λ o. o.key < result) operations.now }
+{
+    let mut count = 0;
+    for keyed in operations {
+        count = count.max(keyed.key as usize + 1);
+    }
+    count
 }

@@ -1,8 +1,9 @@
 //! How what was judged is spelled. The engine is generic in it, so what it writes comes from what
 //! was judged and from nothing else. How `linear` spells is only tested.
-use crate::judged::{Judged, Refuted};
+use crate::judged::Judged;
 use fy_history::Names;
-use fy_registers::{Act, Evidence, Judgement, Operation};
+use fy_registers::{Act, Evidence, Judgement, Keyed, Operation};
+use indexmap::IndexSet;
 use json::Writer;
 use std::alloc::{AllocError, Global};
 
@@ -40,19 +41,16 @@ fn write_count(line: &mut Writer, name: &str, count: usize) -> Result<(), AllocE
     line.u64(count as u64)
 }
 
-/// The text of a value, which is a place among these.
-fn value_text<'a>(names: &'a Names, values: &[u32], value: u32) -> &'a str {
-    match values.get(value as usize) {
-        Some(text) => names.text(*text),
-        None => "",
-    }
+/// The operation that began at a line, with the number of a text as its value.
+fn told_at(operations: &[Keyed], began: u32) -> Option<Operation> {
+    let at = operations.partition_point(|keyed| keyed.operation.began < began);
+    Some(operations.get(at)?.operation)
 }
 
 /// Writes an operation.
 fn write_operation(
     line: &mut Writer,
     names: &Names,
-    values: &[u32],
     operation: Operation,
 ) -> Result<(), AllocError> {
     line.begin_object()?;
@@ -70,7 +68,7 @@ fn write_operation(
     })?;
     line.key("value")?;
     match operation.value() {
-        Some(value) => line.string(value_text(names, values, value))?,
+        Some(value) => line.string(names.text(value))?,
         None => line.null()?,
     }
     line.end_object()
@@ -103,17 +101,25 @@ fn shown_by(evidence: Evidence) -> (&'static str, [Option<Operation>; 4]) {
 }
 
 /// Writes the line of a key that isn't linearizable.
-fn write_refuted(bytes: Vec<u8>, names: &Names, refuted: &Refuted) -> Result<Vec<u8>, AllocError> {
-    let (why, operations) = shown(refuted.judgement);
+fn write_refuted(
+    bytes: Vec<u8>,
+    names: &Names,
+    judged: &Judged,
+    key: u32,
+    judgement: Option<Judgement>,
+) -> Result<Vec<u8>, AllocError> {
+    let (why, operations) = shown(judgement);
     let mut line = Writer::new(bytes);
     line.begin_object()?;
     line.key("key")?;
-    line.string(names.text(refuted.key))?;
+    line.string(names.text(key))?;
     line.key("operations")?;
     line.begin_array()?;
     for operation in operations {
-        if let Some(operation) = operation {
-            write_operation(&mut line, names, &refuted.values, operation)?;
+        if let Some(operation) = operation
+            && let Some(told) = told_at(&judged.operations, operation.began)
+        {
+            write_operation(&mut line, names, told)?;
         }
     }
     line.end_array()?;
@@ -122,22 +128,38 @@ fn write_refuted(bytes: Vec<u8>, names: &Names, refuted: &Refuted) -> Result<Vec
     end_line(line)
 }
 
+/// How many keys have operations.
+fn count_keys(alloc: Global, operations: &[Keyed]) -> Result<usize, AllocError> {
+    let mut keys: IndexSet<u32> = IndexSet::new(alloc);
+    for keyed in operations {
+        if keys.insert(keyed.key).is_err() {
+            return Err(AllocError);
+        }
+    }
+    Ok(keys.len())
+}
+
 impl Spelling for Jsonl {
     // No definition says what the lines are.
     ghost spells = { λ _ _ _ _. Unit };
 
     fn spell(&self, alloc: Global, names: &Names, judged: &Judged) -> Result<Vec<u8>, AllocError> {
         let mut bytes = Vec::new(alloc);
-        for refuted in &judged.refuted {
-            bytes = write_refuted(bytes, names, refuted)?;
+        let (mut key, mut not) = (0u32, 0usize);
+        for judgement in &judged.judgements {
+            if *judgement != Some(Judgement::Linearizable) {
+                bytes = write_refuted(bytes, names, judged, key, *judgement)?;
+                not = not.saturating_add(1);
+            }
+            key = key.saturating_add(1);
         }
-        let not = judged.refuted.len();
+        let keys = count_keys(alloc, &judged.operations)?;
         let mut line = Writer::new(bytes);
         line.begin_object()?;
-        write_count(&mut line, "keys", judged.keys)?;
-        write_count(&mut line, "linearizable", judged.keys.saturating_sub(not))?;
+        write_count(&mut line, "keys", keys)?;
+        write_count(&mut line, "linearizable", keys.saturating_sub(not))?;
         write_count(&mut line, "not", not)?;
-        write_count(&mut line, "operations", judged.operations)?;
+        write_count(&mut line, "operations", judged.operations.len())?;
         end_line(line)
     }
 }
