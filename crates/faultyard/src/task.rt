@@ -483,7 +483,10 @@ fn audit_of<'a>(given: &ArgMatches<'a>) -> &'a str
 fn is_fresh(given: &ArgMatches<'_>) -> bool
     ensures { IsSetOf (first_of (codes "fresh") (rows_of (found_of given.now))) result }
 {
-    given.get_str("fresh") == Some("true")
+    match given.get_str("fresh") {
+        Some("true") => true,
+        _ => false,
+    }
 }
 
 /// The file of events among the words of a subcommand, if one is named.
