@@ -1,4 +1,8 @@
 //! The engine behind `faultyard verdict`.
+ghost use Rattle.std.specs.Prelude.{◌≡◌, ◌≢◌, IfOk, IfErr, IfSome};
+ghost use Rattle.std.specs.Io.KnownBytes.{Appends};
+ghost use Rattle.fy_verdict.specs.Found.{worst_of, Tells};
+
 use crate::findings::findings_of;
 use crate::spelling::Spelling;
 use crate::watched::{Watched, watch_audit};
@@ -8,6 +12,7 @@ use fy_histories::HistoriesStop;
 use fy_history::{Known, read_history};
 use fy_lines::write_bytes;
 use fy_records::Counts;
+use fy_streams::Stop;
 use std::alloc::Global;
 use std::io::{BufRead, Read, Write};
 
@@ -31,7 +36,9 @@ pub enum Outcome {
 }
 
 /// The worst of the verdicts that were counted.
-fn worst_of(counts: &Counts) -> Outcome {
+fn worst_of(counts: &Counts) -> Outcome
+    ensures { result ≡ worst_of counts.now }
+{
     if counts.lost > 0 {
         Outcome::Lost
     } else if counts.wrong > 0 || counts.unwritten > 0 {
@@ -65,7 +72,14 @@ pub fn run_verdict<S: Spelling, A: Read, R: BufRead, W: Write>(
     audit: &mut A,
     reader: &mut R,
     writer: &mut W,
-) -> Result<Outcome, HistoriesStop> {
+) -> Result<Outcome, HistoriesStop>
+    ensures told { IfOk result (λ outcome. outcome ≢ Outcome.NotLegal →
+        IfSome (R.remaining reader.old) (λ bytes.
+        Tells config.now bytes (S.spells form.now) outcome
+        (Appends (W.contents writer.old) (W.contents writer.new)))) }
+    ensures nothing_out { IfErr result (λ stop. stop ≢ HistoriesStop.Other Stop.Write →
+        W.contents writer.new ≡ W.contents writer.old) }
+{
     let Watched { finding, outages } = watch_audit(alloc, config, audit)?;
     let Some(mut outages) = outages else {
         write_finding(finding, writer)?;

@@ -1,4 +1,6 @@
 //! Where the entries of an audit stand in a history.
+ghost use Rattle.std.specs.Prelude.{◌≡◌, IfOk, length, vec_len};
+
 use fy_history::{EntryLine, History, Place, Read};
 use fy_holders::{Note, Outages};
 use fy_locality::ProcId;
@@ -7,8 +9,11 @@ use std::alloc::{AllocError, Global};
 /// How many entries were answered before a line.
 pub(crate) fn position_at(entries: &[EntryLine], line: u32) -> u32 {
     let before = entries.partition_point(|entry| entry.at.line < line);
-    match entries[..before].last() {
-        Some(entry) => entry.entry + 1,
+    if before == 0 {
+        return 0;
+    }
+    match entries.get(before - 1) {
+        Some(entry) => entry.entry.saturating_add(1),
         None => 0,
     }
 }
@@ -73,9 +78,11 @@ pub(crate) fn wholes_of(
     alloc: Global,
     outages: &Outages,
     history: &History,
-) -> Result<Vec<bool>, AllocError> {
+) -> Result<Vec<bool>, AllocError>
+    ensures { IfOk result (λ wholes. vec_len wholes ≡ length history.now.reads.items) }
+{
     let beyond = first_beyond(outages, &history.entries);
-    let mut wholes = Vec::with_capacity(alloc, history.reads.len())?;
+    let mut wholes = Vec::new(alloc);
     for read in &history.reads {
         wholes.push(is_whole(outages, &history.entries, beyond, read))?;
     }

@@ -1,4 +1,8 @@
 //! What is found of the records of a history.
+ghost use Rattle.std.specs.Prelude.{◌≡◌, ◌<◌, ◌^◌, IfOk, OnOk, length};
+ghost use Rattle.fy_records.specs.Indexed.{IsInOrder};
+ghost use Rattle.fy_verdict.specs.Found.{IsFoundIn};
+
 use crate::entries::{first_beyond, position_at, wholes_of};
 use fy_history::History;
 use fy_holders::{Blame, Heal, Outages};
@@ -51,8 +55,13 @@ pub struct Finding {
 /// What is found of all records.
 #[derive(Drop)]
 pub struct Findings {
-    pub records: Vec<Finding>,
+    /// Of each read, whether its process counts as whole where it was asked and where it answered.
+    pub wholes: Vec<bool>,
+    /// All acknowledged records with their verdicts, in the order of their acknowledgements.
+    pub judged: Vec<Judged>,
     pub counts: Counts,
+    /// The records that aren't kept.
+    pub records: Vec<Finding>,
 }
 
 /// Whether what is asked and what is found on disks contradict each other.
@@ -91,7 +100,9 @@ fn evidence_of(
     beyond: Option<u32>,
     judged: &Judged,
     position: u32,
-) -> Result<Evidence, AllocError> {
+) -> Result<Evidence, AllocError>
+    requires { IsInOrder index.now }
+{
     match judged.verdict {
         Verdict::Lost(loss) => {
             let tells = tellers(alloc, index, &judged.write)?;
@@ -114,6 +125,56 @@ fn evidence_of(
     }
 }
 
+/// The records that aren't kept, with what shows it.
+fn not_kept(
+    alloc: Global,
+    index: &Index,
+    outages: &mut Outages,
+    history: &History,
+    judged: &[Judged],
+) -> Result<Vec<Finding>, AllocError>
+    requires { IsInOrder index.now }
+{
+    let beyond = match first_beyond(outages, &history.entries) {
+        Some(entry) => Some(entry.entry),
+        None => None,
+    };
+    let mut records = Vec::new(alloc);
+    for judged in judged {
+        if judged.verdict != Verdict::Kept {
+            let position = position_at(&history.entries, judged.acked.line);
+            let evidence = evidence_of(alloc, index, outages, beyond, judged, position)?;
+            records.push(Finding {
+                judged: *judged,
+                position,
+                evidence,
+            })?;
+        }
+    }
+    Ok(records)
+}
+
+/// How many texts a history has.
+fn count_names(history: &History) -> Result<u32, AllocError>
+    ensures { IfOk result (λ count. count ≡ length history.now.names) }
+{
+    match u32::try_from(history.names.len()) {
+        Ok(count) => Ok(count),
+        Err(_) => Err(AllocError),
+    }
+}
+
+/// That so many records can be counted, as memory has never room for more.
+fn are_few(count: usize) -> Result<(), AllocError>
+    ensures { OnOk result (count < 2 ^ 50) }
+{
+    if count < 1_125_899_906_842_624 {
+        Ok(())
+    } else {
+        Err(AllocError)
+    }
+}
+
 /// What is found of the records of a history, by who was destroyed when.
 ///
 /// # Errors
@@ -124,24 +185,20 @@ pub(crate) fn findings_of(
     outages: &mut Outages,
     history: &History,
     processes: u16,
-) -> Result<Findings, AllocError> {
+) -> Result<Findings, AllocError>
+    ensures { IfOk result (IsFoundIn history.now processes) }
+{
     let wholes = wholes_of(alloc, outages, history)?;
-    let names = history.names.len() as u32;
+    let names = count_names(history)?;
     let index = Index::new(alloc, history, &wholes, processes, names)?;
     let judged = judge_records(alloc, &index)?;
+    are_few(judged.len())?;
     let counts = count_records(alloc, &index, &judged)?;
-    let beyond = first_beyond(outages, &history.entries).map(|entry| entry.entry);
-    let mut records = Vec::new(alloc);
-    for judged in &judged {
-        if judged.verdict != Verdict::Kept {
-            let position = position_at(&history.entries, judged.acked.line);
-            let evidence = evidence_of(alloc, &index, outages, beyond, judged, position)?;
-            records.push(Finding {
-                judged: *judged,
-                position,
-                evidence,
-            })?;
-        }
-    }
-    Ok(Findings { records, counts })
+    let records = not_kept(alloc, &index, outages, history, &judged)?;
+    Ok(Findings {
+        wholes,
+        judged,
+        counts,
+        records,
+    })
 }

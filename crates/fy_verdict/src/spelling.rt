@@ -9,6 +9,11 @@ use std::alloc::{AllocError, Global};
 
 /// A way to spell what was found of a history. `spells` says which bytes stand for it.
 pub trait Spelling {
+    ghost use Rattle.std.specs.Prelude.{ℕ, List, IfOk};
+    ghost use Rattle.fy_verdict.specs.declared.findings.Findings.{Findings};
+
+    ghost spells: { Self → List (List ℕ) → Findings → List ℕ → Type 0 };
+
     /// The bytes that stand for what was found in a history of these names.
     ///
     /// # Errors
@@ -19,7 +24,8 @@ pub trait Spelling {
         alloc: Global,
         names: &Names,
         findings: &Findings,
-    ) -> Result<Vec<u8>, AllocError>;
+    ) -> Result<Vec<u8>, AllocError>
+        ensures { IfOk result (λ text. spells self.now names.now findings.now text.items) };
 }
 
 /// A line of JSON for each record that isn't kept, and a line of counts.
@@ -246,6 +252,9 @@ fn write_counts(bytes: Vec<u8>, counts: &Counts) -> Result<Vec<u8>, AllocError> 
 }
 
 impl Spelling for Jsonl {
+    // No definition says what the lines are.
+    ghost spells = { λ _ _ _ _. Unit };
+
     fn spell(
         &self,
         alloc: Global,

@@ -14,7 +14,12 @@ struct WatchSink {
 }
 
 impl Sink for WatchSink {
-    ghost has_taken = { λ _ _ _. Unit };
+    ghost use Rattle.std.specs.Prelude.{◌≡◌};
+    ghost use Rattle.fy_replay.specs.Replayed.{HasReplayed};
+
+    ghost has_taken = { λ begun entries now.
+        HasReplayed begun.watch.replayed.execution.setup entries now.watch.replayed
+        × (now.watch.replayed.version ≡ begun.watch.replayed.version) };
 
     fn enter(&mut self, entry: Entry) -> Result<(), AllocError> {
         self.watch.enter(entry)
