@@ -3,6 +3,7 @@
 
 mod fault;
 mod history;
+pub mod laws;
 mod line;
 mod names;
 mod progress;
