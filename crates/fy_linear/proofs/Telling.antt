@@ -9,7 +9,7 @@ use Rattle.fy_linear.specs.declared.judged.Judged.{Judged}
 -- put together
 pub tells : (known : Option (List ℕ)) (spells : List (List ℕ) → Judged → List ℕ → Type 0)
     (goes : List ℕ → Type 0) (history : History) (judged : Judged) (text : List ℕ) (done : Bool)
-    → IfSome known (λ bytes. IsRead any bytes history) → IsJudgedOf judged
+    → IfSome known (λ bytes. IsRead any bytes history) → IsJudgedOf history judged
     → spells history.names judged text → goes text
     → (IsTrue done ↔ All (λ it. it ≡ Some Linearizable) judged.judgements.items)
     → IfSome known (λ bytes. Tells bytes spells done goes)

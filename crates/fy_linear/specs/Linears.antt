@@ -1,9 +1,11 @@
 -- what `linear` writes
 use Rattle.std.specs.Prelude.{◌≡◌, ◌<◌, ℕ, Bool, List, IsTrue, ◌↔◌, All, Contains, Some, IfSome, slice_get}
+use Rattle.std.specs.List.Sorted.{IsPermutation}
 use Rattle.fy_history.specs.Histories.{IsRead}
 use Rattle.fy_history.specs.declared.history.History.{History}
 use Rattle.fy_history.specs.declared.line.TheConstants.{MOST_NODES}
 use Rattle.fy_history.specs.declared.progress.Known.{Known}
+use Rattle.fy_linear.specs.Operations.{all_of}
 use Rattle.fy_registers.specs.Keys.{AreLinearizable}
 use Rattle.fy_registers.specs.declared.evidence.Evidence.{Evidence}
 use Rattle.fy_registers.specs.declared.evidence.Judgement.TheVariants.{Linearizable, Not}
@@ -13,9 +15,10 @@ use Rattle.fy_linear.specs.declared.judged.Judged.{Judged}
 abbrev pub any : Known
 any = record { processes = MOST_NODES; entries = 4294967295 }
 
--- where each key is judged linearizable, the operations are, and where one is judged not to be,
--- they aren't
-pub record IsJudgedOf (judged : Judged) : Type 0 where
+-- the operations are those of the history. Where each key is judged linearizable, they are, with
+-- numbers from 0 on for the values of each key, and where one is judged not to be, they aren't
+pub record IsJudgedOf (history : History) (judged : Judged) : Type 0 where
+  pub same : IsPermutation (all_of history) judged.operations.items
   pub all : All (λ it. it ≡ Some Linearizable) judged.judgements.items
       → AreLinearizable judged.numbered.items
   pub not : (evidence : Evidence) → Contains judged.judgements.items (Some (Not evidence))
@@ -28,7 +31,7 @@ pub record Tells (bytes : List ℕ) (spells : List (List ℕ) → Judged → Lis
   pub history : History
   pub read : IsRead any bytes history
   pub judged : Judged
-  pub judges : IsJudgedOf judged
+  pub judges : IsJudgedOf history judged
   pub text : List ℕ
   pub spelled : spells history.names judged text
   pub out : goes text

@@ -40,7 +40,7 @@ impl Judged {
 
 /// Judges each key of a history.
 pub(crate) fn judge_history(alloc: Global, history: &History) -> Result<Judged, AllocError>
-    ensures { IfOk result IsJudgedOf }
+    ensures { IfOk result (IsJudgedOf history.now) }
 {
     let operations = operations_of(alloc, history)?;
     let numbered = numbered(alloc, &operations)?;

@@ -1,16 +1,30 @@
 //! The operations of the registers of a history.
-ghost use Rattle.std.specs.Prelude.{◌≡◌, ◌<◌, All};
+ghost use Rattle.std.specs.Prelude.{◌≡◌, ◌<◌, ◌++◌, All, IfOk, filter_map};
+ghost use Rattle.std.specs.List.Sorted.{IsPermutation};
+ghost use Rattle.fy_linear.specs.Operations.{line_of, written, answered, all_of};
 
-use fy_history::{Answer, End, History, Read, Write};
+use fy_history::{Answer, End, History, Place, Read, Write};
 use fy_registers::{Act, Keyed, Operation};
 use indexmap::IndexMap;
 use std::alloc::{AllocError, Global};
 
+/// The line of a place.
+fn line_of(place: Option<Place>) -> Option<u32>
+    ensures { result ≡ line_of place }
+{
+    match place {
+        Some(place) => Some(place.line),
+        None => None,
+    }
+}
+
 /// The operation that a write is; none where it is known not to be done.
-fn write_operation(write: &Write) -> Option<Keyed> {
+fn write_operation(write: &Write) -> Option<Keyed>
+    ensures { result ≡ written write.now }
+{
     let ended = match write.end {
         End::Undone => return None,
-        End::Done => write.ended.map(|ended| ended.line),
+        End::Done => line_of(write.ended),
         End::Open | End::Refused | End::Unknown => None,
     };
     Some(Keyed {
@@ -24,7 +38,9 @@ fn write_operation(write: &Write) -> Option<Keyed> {
 }
 
 /// The operation that a read is; none where a process was asked, or nothing was answered.
-fn read_operation(read: &Read) -> Option<Keyed> {
+fn read_operation(read: &Read) -> Option<Keyed>
+    ensures { result ≡ answered read.now }
+{
     if read.node.is_some() {
         return None;
     }
@@ -38,25 +54,40 @@ fn read_operation(read: &Read) -> Option<Keyed> {
         operation: Operation {
             act: Act::Read(answer),
             began: read.began.line,
-            ended: read.ended.map(|ended| ended.line),
+            ended: line_of(read.ended),
         },
     })
 }
 
+/// The operations that writes are.
+fn writes_of(alloc: Global, writes: &[Write]) -> Result<Vec<Keyed>, AllocError>
+    ensures { IfOk result (λ operations. operations.items ≡ filter_map written writes.now) }
+{
+    writes
+        .iter()
+        .filter_map(|write| write_operation(write))
+        .collect(alloc)
+}
+
+/// The operations that reads are.
+fn reads_of(alloc: Global, reads: &[Read]) -> Result<Vec<Keyed>, AllocError>
+    ensures { IfOk result (λ operations. operations.items ≡ filter_map answered reads.now) }
+{
+    reads
+        .iter()
+        .filter_map(|read| read_operation(read))
+        .collect(alloc)
+}
+
 /// The operations of a history in the order in which they began. Their values are the numbers of
 /// texts.
-pub(crate) fn operations_of(alloc: Global, history: &History) -> Result<Vec<Keyed>, AllocError> {
-    let mut operations = Vec::new(alloc);
-    for write in &history.writes {
-        if let Some(operation) = write_operation(write) {
-            operations.push(operation)?;
-        }
-    }
-    for read in &history.reads {
-        if let Some(operation) = read_operation(read) {
-            operations.push(operation)?;
-        }
-    }
+pub(crate) fn operations_of(alloc: Global, history: &History) -> Result<Vec<Keyed>, AllocError>
+    ensures { IfOk result (λ operations.
+        IsPermutation (all_of history.now) operations.items) }
+{
+    let mut operations = writes_of(alloc, &history.writes)?;
+    let reads = reads_of(alloc, &history.reads)?;
+    operations.extend_from_slice(&reads)?;
     operations.sort_by_key(|keyed| keyed.operation.began)?;
     Ok(operations)
 }

@@ -2,7 +2,7 @@
 //! was found and from nothing else. How `verdict` spells is only tested.
 use crate::findings::{Evidence, Fault, Finding, Findings};
 use fy_history::{Answer, Names, Read};
-use fy_locality::ProcSet;
+use fy_locality::{MOST_PROCESSES, ProcId, ProcSet};
 use fy_records::{Counts, Lacker, Verdict};
 use json::Writer;
 use std::alloc::{AllocError, Global};
@@ -58,10 +58,10 @@ fn write_processes(line: &mut Writer, name: &str, processes: &[u16]) -> Result<(
 fn write_set(line: &mut Writer, name: &str, set: &ProcSet) -> Result<(), AllocError> {
     line.key(name)?;
     line.begin_array()?;
-    let mut rest = *set;
-    while let Some(process) = rest.least() {
-        rest.drop_one(process);
-        line.u64(u64::from(process.0))?;
+    for number in 0..MOST_PROCESSES {
+        if set.contains(ProcId(number)) {
+            line.u64(u64::from(number))?;
+        }
     }
     line.end_array()
 }
