@@ -5,16 +5,16 @@ mod fault;
 mod history;
 mod line;
 mod names;
-//mod progress;
-//mod reader;
+mod progress;
+mod reader;
 mod whole;
 
 pub use fault::{HistoryFault, HistoryStop};
 pub use history::{Answer, DiskLine, End, EntryLine, History, Place, Read, Trace, Write};
 pub use line::{MOST_CLIENTS, MOST_NODES};
 pub use names::Names;
-//pub use progress::Known;
-//pub use reader::read_history;
+pub use progress::Known;
+pub use reader::read_history;
 
 /// How many lines a history may have: 4,194,304.
 pub const MOST_HISTORY_LINES: u32 = 4_194_304;
