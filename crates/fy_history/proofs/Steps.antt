@@ -26,17 +26,36 @@ pub begins : (s one two now : State) (number : ℕ) (key value : Text) (began : 
     (done : Result (Unit {0}) NotTaken) → k ≡ number_of s.names key → one ≡ with_name s key
     → v ≡ number_of one.names value → two ≡ with_name one value
     → Takes (begin_with two number (record {
-      key = k; value = v; began = began; ended = None; end = Open })) now done
+      key = k;
+      value = v;
+      began = began;
+      ended = None;
+      end = Open;
+    })) now done
     → Takes (begin_write s number key value began) now done
 begins s one two now number key value began k v done ek e1 ev e2 took =
     subst (λ (n : ℕ). Takes (begin_with (with_name (with_name s key) value) number (record {
-      key = n; value = number_of (with_text s.names key) value; began = began; ended = None;
-      end = Open })) now done) ek
+      key = n;
+      value = number_of (with_text s.names key) value;
+      began = began;
+      ended = None;
+      end = Open;
+    })) now done) ek
     (subst (λ (n : ℕ). Takes (begin_with (with_name (with_name s key) value) number (record {
-      key = k; value = n; began = began; ended = None; end = Open })) now done)
+      key = k;
+      value = n;
+      began = began;
+      ended = None;
+      end = Open;
+    })) now done)
     (ev ∙ ap (λ (t : State). number_of t.names value) e1)
     (subst (λ (t : State). Takes (begin_with t number (record {
-      key = k; value = v; began = began; ended = None; end = Open })) now done)
+      key = k;
+      value = v;
+      began = began;
+      ended = None;
+      end = Open;
+    })) now done)
     (e2 ∙ ap (λ (t : State). with_name t value) e1) took))
 
 -- a line that is taken: its index and its time are right, and what it says is taken

@@ -260,11 +260,7 @@ fn is_no(error: Option<&str>) -> bool
 }
 
 /// How a line says that what was asked didn't end well.
-fn undone_in<'a>(
-    value: &Value<'a>,
-    ask: Ask<&'a str>,
-    fails: bool,
-) -> Option<Outcome<&'a str>>
+fn undone_in<'a>(value: &Value<'a>, ask: Ask<&'a str>, fails: bool) -> Option<Outcome<&'a str>>
     ensures { option_map outcome_view result
         ≡ undone_in fails (ask_view ask.entry) (value_view value.now) }
 {
@@ -349,11 +345,7 @@ fn begins<'a>(value: &Value<'a>, client: u32, ask: Ask<&'a str>) -> Option<Event
 }
 
 /// How the line of a client says that what was asked ended.
-fn outcome_in<'a>(
-    value: &Value<'a>,
-    ask: Ask<&'a str>,
-    kind: &str,
-) -> Option<Outcome<&'a str>>
+fn outcome_in<'a>(value: &Value<'a>, ask: Ask<&'a str>, kind: &str) -> Option<Outcome<&'a str>>
     ensures { option_map outcome_view result
         ≡ outcome_in kind.now (ask_view ask.entry) (value_view value.now) }
 {

@@ -360,12 +360,14 @@ impl Progress {
         ensures answer { IfOk result (λ answer.
             answer ≡ answer_of self.old.names (outcome_view outcome.entry)) }
         ensures state { OnOk result (state_of self.new ≡ record (state_of self.old) {
-            names = found_names self.old.names (outcome_view outcome.entry) }) }
+          names = found_names self.old.names (outcome_view outcome.entry);
+        }) }
         ensures memory { IfErr result (λ stop. stop ≡ NotTaken.NoMemory) }
     {
         match outcome {
             Outcome::Done {
-                found: Some(found), ..
+                found: Some(found),
+                ..
             } => Ok(Answer::Value(self.name(found)?)),
             Outcome::Done { found: None, .. } => Ok(Answer::Nothing),
             Outcome::Failed | Outcome::Refused | Outcome::Unknown => Ok(Answer::Unanswered),
@@ -458,7 +460,8 @@ impl Progress {
         ensures trace { IfOk result (λ trace.
             trace ≡ trace_of self.old.names (found_view found.entry)) }
         ensures state { OnOk result (state_of self.new ≡ record (state_of self.old) {
-            names = traced_names self.old.names (found_view found.entry) }) }
+          names = traced_names self.old.names (found_view found.entry);
+        }) }
         ensures memory { IfErr result (λ stop. stop ≡ NotTaken.NoMemory) }
     {
         match found {
@@ -507,12 +510,7 @@ impl Progress {
     }
 
     /// Takes what a line says happened.
-    fn take_event(
-        &mut self,
-        known: Known,
-        at: Place,
-        event: Event<&str>,
-    ) -> Result<(), NotTaken>
+    fn take_event(&mut self, known: Known, at: Place, event: Event<&str>) -> Result<(), NotTaken>
         ensures { Takes (take_event known (state_of self.old) at (event_view event.entry))
             (state_of self.new) result }
     {
