@@ -1,0 +1,4 @@
+pub mod Steps
+pub mod Finding
+pub mod Processes
+pub mod Chunks

@@ -52,7 +52,7 @@ fn is_gone(index: &Index, write: &Write) -> bool {
         Some(told) => {
             let case = Case {
                 value: write.value,
-                since: told.line,
+                since: told,
                 written: index.written(),
             };
             lost_by_store(case, reads).is_some() || lost_by_process(case, reads).is_some()
@@ -73,7 +73,7 @@ fn is_refused_and_there(index: &Index, write: &Write) -> bool {
 fn is_recovered(index: &Index, write: &Write) -> bool {
     let case = Case {
         value: write.value,
-        since: 0,
+        since: write.began,
         written: index.written(),
     };
     is_told_at_end(case, index.reads_of(write.key))

@@ -1,6 +1,7 @@
 //! Who tells a record, who lacks it and whose disk has it.
 use crate::Index;
-use crate::judge::{last_lacking, same_process};
+use crate::judge::{last_lacking, split_process};
+use crate::seen::Test;
 use fy_history::Write;
 use std::alloc::{AllocError, Global};
 
@@ -55,9 +56,8 @@ pub fn lackers(alloc: Global, index: &Index, write: &Write) -> Result<Vec<Lacker
     let mut lackers = Vec::new(alloc);
     let mut rest = index.reads_of(write.key);
     while !rest.is_empty() {
-        let (process, next) = rest.split_at(same_process(rest));
-        if let Some(seen) = last_lacking(index.written(), process)
-            && seen.whole
+        let (process, next) = split_process(rest);
+        if let Some(seen) = last_lacking(index.written(), process, Test::Whole)
             && let (Some(node), Some(ended)) = (seen.read.node, seen.read.ended)
         {
             lackers.push(Lacker {

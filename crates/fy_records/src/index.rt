@@ -44,14 +44,6 @@ fn is_wrong(pairs: &[u64], read: &Read) -> bool {
     }
 }
 
-/// The number of the process that a read asked, from 1 on, and 0 for the store as a whole.
-fn node_number(seen: &Seen) -> u32 {
-    match seen.read.node {
-        Some(node) => node as u32 + 1,
-        None => 0,
-    }
-}
-
 /// The reads of a history as they are judged.
 fn seen_reads(alloc: Global, history: &History, wholes: &[bool]) -> Result<Vec<Seen>, AllocError> {
     let pairs = values_written(alloc, &history.writes)?;
@@ -86,7 +78,7 @@ impl Index {
         }
         writes.sort_by_key(|write| write.key)?;
         let mut reads = seen_reads(alloc, history, wholes)?;
-        reads.sort_by_key(|seen| node_number(seen))?;
+        reads.sort_by_key(|seen| seen.process())?;
         reads.sort_by_key(|seen| seen.read.key)?;
         let founds = founds_by_key(alloc, &history.disks)?;
         Ok(Index {

@@ -1,4 +1,7 @@
 //! A read as it is judged.
+ghost use Rattle.std.specs.Prelude.{◌≡◌};
+ghost use Rattle.fy_records.specs.Reads.{is_answered, lacks, tells, began_after, is_at_end, is_of_store, passes, process_of};
+
 use fy_history::{Answer, Place, Read};
 
 /// A read, and what the history as a whole says of it.
@@ -30,7 +33,9 @@ pub(crate) enum Test {
 
 impl Seen {
     /// Whether it was answered.
-    pub(crate) fn is_answered(&self) -> bool {
+    pub(crate) fn is_answered(&self) -> bool
+        ensures { result ≡ is_answered self.now }
+    {
         match self.read.answer {
             Answer::Unanswered => false,
             Answer::Nothing | Answer::Value(_) => true,
@@ -38,7 +43,9 @@ impl Seen {
     }
 
     /// Whether the key had no value.
-    pub(crate) fn lacks(&self) -> bool {
+    pub(crate) fn lacks(&self) -> bool
+        ensures { result ≡ lacks self.now }
+    {
         match self.read.answer {
             Answer::Nothing => true,
             Answer::Unanswered | Answer::Value(_) => false,
@@ -46,7 +53,9 @@ impl Seen {
     }
 
     /// Whether the key had this value.
-    pub(crate) fn tells(&self, value: u32) -> bool {
+    pub(crate) fn tells(&self, value: u32) -> bool
+        ensures { result ≡ tells value self.now }
+    {
         match self.read.answer {
             Answer::Value(told) => told == value,
             Answer::Unanswered | Answer::Nothing => false,
@@ -54,12 +63,16 @@ impl Seen {
     }
 
     /// Whether it began behind a line.
-    pub(crate) fn began_after(&self, line: u32) -> bool {
+    pub(crate) fn began_after(&self, line: u32) -> bool
+        ensures { result ≡ began_after line self.now }
+    {
         line < self.read.began.line
     }
 
     /// Whether it is a read at the end: one that began behind the line of `written`.
-    pub(crate) fn is_at_end(&self, written: Option<Place>) -> bool {
+    pub(crate) fn is_at_end(&self, written: Option<Place>) -> bool
+        ensures { result ≡ is_at_end written self.now }
+    {
         match written {
             Some(place) => self.began_after(place.line),
             None => false,
@@ -67,12 +80,26 @@ impl Seen {
     }
 
     /// Whether the store as a whole was asked.
-    pub(crate) fn is_of_store(&self) -> bool {
+    pub(crate) fn is_of_store(&self) -> bool
+        ensures { result ≡ is_of_store self.now }
+    {
         self.read.node.is_none()
     }
 
+    /// The number of the process that it asked, from 1 on; 0 for the store as a whole.
+    pub(crate) fn process(&self) -> u32
+        ensures { result ≡ process_of self.now }
+    {
+        match self.read.node {
+            Some(node) => node as u32 + 1,
+            None => 0,
+        }
+    }
+
     /// Whether it passes a test.
-    pub(crate) fn passes(&self, test: Test) -> bool {
+    pub(crate) fn passes(&self, test: Test) -> bool
+        ensures { result ≡ passes test self.now }
+    {
         match test {
             Test::Lacks => self.lacks(),
             Test::Tells(value) => self.tells(value),
