@@ -2,3 +2,10 @@ pub mod Steps
 pub mod Finding
 pub mod Processes
 pub mod Chunks
+pub mod Columns
+pub mod Extents
+pub mod Gathered
+pub mod Among
+pub mod SeenLemmas
+pub mod Same
+pub mod JudgedLemmas

@@ -2,11 +2,10 @@
 use Rattle.std.proofs.Common.{◌≡◌, ◌<◌, ◌≤◌, ◌+◌, ℕ, zero, suc, Bool, true, false, cond, ◌∙◌, List, [], ◌∷◌, ◌++◌, ◌||◌, ◌&&◌, not, length, take, drop, get_or, Option, Some, None, refl, sym, ap, subst, inl, inr, ◌⊎◌, arith, nat_eq, eqb-true, ltb-true}
 use Rattle.std.specs.Prelude.{Contains, nat_lt, nat_le, ◌==◌}
 use Rattle.std.specs.List.{list_any, prefix_len}
-use Rattle.std.specs.List.Sorted.{IsNonDecreasingBy}
 use Rattle.fy_history.specs.declared.history.Place.{Place}
 use Rattle.fy_records.specs.declared.TheConstants.{MINUTE_NANOS}
 use Rattle.fy_records.specs.declared.seen.Seen.{Seen}
-use Rattle.fy_records.specs.Found.{AreOfOne, AreApart}
+use Rattle.fy_records.specs.Found.{AreOfOne, AreApart, AreGathered}
 use Rattle.fy_records.specs.Reads.{is_answered, is_at_end, process_of, same_process, began_after}
 use Rattle.fy_records.proofs.Finding.{any_agree, contains_first, contains_other, contains_cases}
 
@@ -26,19 +25,11 @@ first_of_one reads written seen one there =
     any_agree _ _ reads (λ first at.
     ap (λ b. b && is_at_end written first && nat_le (first.read.began.nanos + MINUTE_NANOS) seen.read.began.nanos) (sym (one seen first there at)))
 
--- each read asked no earlier process than those before
-abbrev Rises : List Seen → Type 0
-Rises [] = Unit {0}
-Rises (x ∷ xs) = ((y : Seen) → Contains xs y → process_of x ≤ process_of y) × Rises xs
-
-rises_from : (xs : List Seen) → IsNonDecreasingBy process_of xs → Rises xs
-rises_from [] order = tt
-rises_from (x ∷ xs) order = (
-  λ y at.
-      let up : process_of x ≤ process_of (get_or xs at.0 y) = order zero (suc at.0) y (omega arith) (omega (arith, at.1)) in
-      subst (λ (z : Seen). process_of x ≤ process_of z) at.2 up,
-  rises_from xs (λ i j d le within. order (suc i) (suc j) d (omega (arith, le)) (omega (arith, within))),
-)
+-- what is behind a front is gathered too
+pub gathered_behind : (n : ℕ) (xs : List Seen) → AreGathered xs → AreGathered (drop n xs)
+gathered_behind zero xs all = all
+gathered_behind (suc n) [] all = tt
+gathered_behind (suc n) (x ∷ xs) all = gathered_behind n xs all.1
 
 -- one element more of a front, and behind it
 take_one : (n : ℕ) (x : Seen) (xs : List Seen) → take (1 + n) (x ∷ xs) ≡ x ∷ take n xs
@@ -63,7 +54,7 @@ front_passes p (x ∷ xs) a at = by (p x) refl (front_passes p xs a) at
     by false e rest at = absurd (omega (arith, at.1))
 
 -- those behind it asked a later process
-back_is_later : (process : ℕ) (xs : List Seen) → Rises xs → ((y : Seen) → Contains xs y → process ≤ process_of y)
+back_is_later : (process : ℕ) (xs : List Seen) → AreGathered xs → ((y : Seen) → Contains xs y → process ≤ process_of y)
     → (b : Seen) → Contains (drop (prefix_len (λ s. process_of s == process) xs) xs) b → process < process_of b
 back_is_later process [] rises from b at = absurd (omega (arith, at.1))
 back_is_later process (x ∷ xs) rises from b at =
@@ -101,20 +92,19 @@ front_of_one process xs a b at_a at_b =
     (front_passes (λ s. process_of s == process) xs b at_b)
 
 -- where the first read asked a process, the reads of that process are apart from those behind them
-front_apart : (first : Seen) (xs : List Seen) → IsNonDecreasingBy process_of (first ∷ xs)
+front_apart : (first : Seen) (xs : List Seen) → AreGathered (first ∷ xs)
     → AreApart (take (prefix_len (λ s. process_of s == process_of first) (first ∷ xs)) (first ∷ xs)) (drop (prefix_len (λ s. process_of s == process_of first) (first ∷ xs)) (first ∷ xs))
 front_apart first xs order a b at_a at_b =
-    let rises = rises_from (first ∷ xs) order in
     let from : (y : Seen) → Contains (first ∷ xs) y → process_of first ≤ process_of y =
     λ y there. elim (contains_cases first xs y there) [
       | inl is ↦ subst (λ (z : Seen). process_of first ≤ process_of z) is (omega arith)
-      | inr behind ↦ rises.0 y behind
+      | inr behind ↦ order.0 y behind
     ] in
     differ (process_of a) (process_of b) (process_of first)
     (front_passes (λ s. process_of s == process_of first) (first ∷ xs) a at_a)
-    (back_is_later (process_of first) (first ∷ xs) rises from b at_b)
+    (back_is_later (process_of first) (first ∷ xs) order from b at_b)
 
-pub split_apart : (xs : List Seen) (d : Seen) (process : ℕ) → 0 < length xs → IsNonDecreasingBy process_of xs
+pub split_apart : (xs : List Seen) (d : Seen) (process : ℕ) → 0 < length xs → AreGathered xs
     → process ≡ process_of (get_or xs 0 d)
     → AreApart (take (prefix_len (λ s. process_of s == process) xs) xs) (drop (prefix_len (λ s. process_of s == process) xs) xs)
 split_apart [] d process some order is = absurd (omega (arith, some))

@@ -10,7 +10,7 @@ use Rattle.fy_records.specs.declared.seen.Seen.{Seen}
 use Rattle.fy_records.specs.declared.verdict.Judged.{Judged}
 use Rattle.fy_records.specs.declared.verdict.Verdict.{Verdict}
 use Rattle.fy_records.specs.declared.verdict.Verdict.TheVariants.{Lost, Wrong, Missing, Unreadable, Stale, Kept}
-use Rattle.fy_records.specs.Lines.{Lines, some_read, writes_of, record_of, acked_at}
+use Rattle.fy_records.specs.Lines.{Lines, some_read, writes_of, record_of, acknowledged_at}
 use Rattle.fy_records.specs.Reads.{Reads, is_answered, tells, ended_before}
 use Rattle.fy_records.specs.Traces.{is_on_disk}
 use Rattle.fy_records.specs.Verdicts.{case_since, is_lost_by_store, is_lost_by_process, is_told_at_end}
@@ -44,7 +44,7 @@ is_register h key = nat_lt 1 (length (writes_of h key))
 
 -- of the record of a key that wasn't acknowledged so holds
 abbrev pub of_open : Lines → (key : ℕ) → (Write → Bool) → Bool
-of_open h key test = option_map_or test false (open_only (record_of h key))
+of_open h key test = option_map_or test (open_only (record_of h key)) false
 
 -- a read at the end told the record of a write
 abbrev pub is_recovered : Lines → Write → Bool
@@ -77,7 +77,7 @@ is_gone h write =
 
 -- the key has an acknowledged record
 abbrev pub is_acknowledged : Lines → (key : ℕ) → Bool
-is_acknowledged h key = option_map_or (λ write. is_some (acked_at write)) false (record_of h key)
+is_acknowledged h key = is_some (acknowledged_at h key)
 
 -- a read of a key that has no acknowledged record told what nobody wrote
 abbrev pub is_unwritten : Lines → (key : ℕ) → Bool

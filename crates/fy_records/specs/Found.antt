@@ -1,8 +1,8 @@
 -- what is found among the reads of a key
-use Rattle.std.specs.Prelude.{◌≡◌, ℕ, ◌+◌, nat_le, Bool, true, false, List, Contains, Option, Some, None}
+use Rattle.std.specs.Prelude.{◌≡◌, ◌≤◌, [], ◌∷◌, ⊤, ℕ, ◌+◌, nat_le, Bool, true, false, List, Contains, Option, Some, None}
 use Rattle.std.specs.List.{list_any}
 use Rattle.fy_records.specs.declared.seen.Seen.{Seen}
-use Rattle.fy_records.specs.Reads.{Reads, same_process}
+use Rattle.fy_records.specs.Reads.{Reads, process_of, same_process}
 
 -- whether one of these reads passes a test
 abbrev pub some_of : List Seen → Reads
@@ -27,3 +27,9 @@ abbrev pub AreApart : List Seen → List Seen → Type 0
 AreApart reads others =
     (a b : Seen) → Contains reads a → Contains others b
     → (same_process a b ≡ false) × (same_process b a ≡ false)
+
+-- the reads of each process stand together: none asked an earlier process than one before
+abbrev pub AreGathered : List Seen → Type 0
+AreGathered [] = ⊤
+AreGathered (seen ∷ reads) =
+    ((later : Seen) → Contains reads later → process_of seen ≤ process_of later) × AreGathered reads

@@ -1,6 +1,9 @@
 pub mod Reads
 pub mod Traces
+pub mod Founds
 pub mod Found
 pub mod Lines
+pub mod Pairs
+pub mod Indexed
 pub mod Verdicts
 pub mod Counted

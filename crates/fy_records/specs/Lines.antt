@@ -1,5 +1,5 @@
 -- the lines of a history by which records are judged
-use Rattle.std.specs.Prelude.{ℕ, Bool, true, false, not, ◌&&◌, ◌==◌, List, [], ◌∷◌, filter, Option, Some, None, if◌then◌else◌}
+use Rattle.std.specs.Prelude.{ℕ, Bool, true, false, not, ◌&&◌, ◌==◌, List, [], ◌∷◌, filter, option_and_then, Option, Some, None, if◌then◌else◌}
 use Rattle.std.specs.List.{list_any}
 use Rattle.fy_history.specs.declared.history.Answer.{Answer}
 use Rattle.fy_history.specs.declared.history.Answer.TheVariants.{Unanswered, Nothing, Value}
@@ -58,13 +58,18 @@ is_wrong writes key Unanswered = false
 is_wrong writes key Nothing = false
 is_wrong writes key (Value told) = not (is_written writes key told)
 
+-- a read as it is judged: whether its process counted as whole, and whether it told what nobody
+-- wrote
+abbrev pub seen_of : List Write → Read → (whole : Bool) → Seen
+seen_of writes read whole =
+    record { read = read; whole = whole; wrong = is_wrong writes read.key read.answer }
+
 -- the reads as they are judged
 abbrev pub seen_reads : List Write → List Read → (wholes : List Bool) → List Seen
 seen_reads writes [] wholes = []
 seen_reads writes (read ∷ reads) [] = []
 seen_reads writes (read ∷ reads) (whole ∷ wholes) =
-    record { read = read; whole = whole; wrong = is_wrong writes read.key read.answer }
-    ∷ seen_reads writes reads wholes
+    seen_of writes read whole ∷ seen_reads writes reads wholes
 
 -- all reads of a history as they are judged
 abbrev pub all_reads : Lines → List Seen
@@ -95,3 +100,12 @@ record_of h key = only (writes_of h key)
 -- where a write was acknowledged
 abbrev pub acked_at : Write → Option Place
 acked_at write = if is_done write.end then write.ended else None
+
+-- where the record of a key was acknowledged
+abbrev pub acknowledged_at : Lines → (key : ℕ) → Option Place
+acknowledged_at h key = option_and_then acked_at (record_of h key)
+
+-- a list of one element, or of none
+abbrev pub list_of : {X : Type 0} → Option X → List X
+list_of None = []
+list_of (Some x) = x ∷ []

@@ -1,6 +1,7 @@
 -- what became of a record
-use Rattle.std.specs.Prelude.{◌≡◌, ℕ, ◌+◌, ◌-◌, Bool, true, false, not, ◌&&◌, ◌||◌, ◌==◌, nat_lt, nat_le, List, Contains, ⊤, option_map, Option, Some, None, is_some, if◌then◌else◌, ◌⊎◌}
+use Rattle.std.specs.Prelude.{◌≡◌, ℕ, zero, suc, [], ◌++◌, ◌+◌, ◌-◌, Bool, true, false, not, ◌&&◌, ◌||◌, ◌==◌, nat_lt, nat_le, List, Contains, ⊤, option_map, Option, Some, None, is_some, if◌then◌else◌, ◌⊎◌}
 use Rattle.std.specs.List.{list_any}
+use Rattle.std.specs.List.Sorted.{IsPermutation, IsNonDecreasingBy}
 use Rattle.fy_history.specs.declared.history.Place.{Place}
 use Rattle.fy_history.specs.declared.history.Read.{Read}
 use Rattle.fy_history.specs.declared.history.Write.{Write}
@@ -11,7 +12,7 @@ use Rattle.fy_records.specs.declared.verdict.Judged.{Judged}
 use Rattle.fy_records.specs.declared.verdict.Loss.TheVariants.{Store, Process, Disks}
 use Rattle.fy_records.specs.declared.verdict.Verdict.{Verdict}
 use Rattle.fy_records.specs.declared.verdict.Verdict.TheVariants.{Lost, Wrong, Missing, Unreadable, Stale, Kept}
-use Rattle.fy_records.specs.Lines.{Lines, reads_of, some_read}
+use Rattle.fy_records.specs.Lines.{Lines, reads_of, some_read, record_of, acked_at, acknowledged_at, list_of}
 use Rattle.fy_records.specs.Reads.{Reads, is_answered, lacks, tells, began_after, ended_before, is_at_end, is_of_store, same_process, is_store_read}
 use Rattle.fy_records.specs.Traces.{is_on_disk, is_on_no_disk}
 
@@ -184,3 +185,24 @@ pub record IsJudged (h : Lines) (write : Write) (acked : Place) (judged : Judged
   pub shown : (seen : Option Seen) × (judged.read ≡ option_map (λ (s : Seen). s.read) seen)
       × AreShownBy (reads_of h write.key) (case_since h write acked) judged.verdict seen
       judged.stale_nanos
+
+-- the judged record of a key: none where the key has no acknowledged record
+abbrev pub IsJudgedKey : Lines → (key : ℕ) → Option Judged → Type 0
+IsJudgedKey h key None = acknowledged_at h key ≡ None
+IsJudgedKey h key (Some judged) =
+    (write : Write) × (acked : Place) × (record_of h key ≡ Some write) × (acked_at write ≡ Some acked)
+    × IsJudged h write acked judged
+
+-- the judged records of the first keys, by key
+abbrev pub AreJudgedBelow : Lines → ℕ → List Judged → Type 0
+AreJudgedBelow h zero records = records ≡ []
+AreJudgedBelow h (suc key) records =
+    (before : List Judged) × (own : Option Judged) × AreJudgedBelow h key before
+    × IsJudgedKey h key own × (records ≡ before ++ list_of own)
+
+-- all acknowledged records of a history, judged, by the line of their acks
+pub record AreJudged (h : Lines) (records : List Judged) : Type 0 where
+  pub by_key : List Judged
+  pub all : AreJudgedBelow h h.names by_key
+  pub same : IsPermutation by_key records
+  pub order : IsNonDecreasingBy (λ (judged : Judged). judged.acked.line) records

@@ -1,19 +1,19 @@
 //! The verdict of each acknowledged record.
-ghost use Rattle.std.specs.Prelude.{◌≡◌, ◌<◌, ◌≤◌, ◌+◌, ◌^◌, ℕ, not, ◌&&◌, ◌||◌, ◌⊎◌, nat_lt, nat_le, ◌==◌, find, ◌++◌, length, take, drop, slice_get, Contains, Some, None, IfSome, IfNone, IsSome, MatchOption, is_some, true, false};
+ghost use Rattle.std.specs.Prelude.{◌≡◌, ◌<◌, ◌≤◌, ◌+◌, ◌^◌, ℕ, not, ◌&&◌, ◌||◌, ◌⊎◌, nat_lt, nat_le, ◌==◌, find, ◌++◌, length, take, drop, slice_get, Contains, Some, None, IfSome, IfOk, OnOk, option_map, is_some, true, false};
 ghost use Rattle.std.specs.List.{list_any, prefix_len};
-ghost use Rattle.std.specs.List.Sorted.{IsNonDecreasingBy};
 ghost use Rattle.fy_records.specs.declared.seen.Seen.{Seen};
 ghost use Rattle.fy_records.specs.declared.TheConstants.{MINUTE_NANOS};
 ghost use Rattle.fy_records.specs.Reads.{lacks, is_of_store, Reads, began_after, is_at_end, passes, tells, is_store_read, same_process, process_of, is_answered};
-ghost use Rattle.fy_records.specs.Lines.{only, acked_at};
-ghost use Rattle.fy_records.specs.Verdicts.{first_verdict, shows, shows_missing, is_missing, is_unreadable, is_told_wrongly, is_lost_on_disks, is_stale, is_last_lacking, IsLag, IsShown, IsStaleFor, shows_store_loss, is_lost_by_store, is_lost_by_process, is_told_at_end, is_answered_at_end, lacks_to_end, shows_process_loss};
-ghost use Rattle.fy_records.specs.Found.{some_of, reaches, FindsOne, AreOfOne, AreApart};
+ghost use Rattle.fy_records.specs.Indexed.{IsInOrder, IsIndexOf};
+ghost use Rattle.fy_records.specs.Lines.{Lines, only, acked_at, record_of, list_of};
+ghost use Rattle.fy_records.specs.Verdicts.{IsJudged, IsJudgedKey, AreJudgedBelow, AreJudged, first_verdict, shows, shows_missing, is_missing, is_unreadable, is_told_wrongly, is_lost_on_disks, is_stale, is_last_lacking, IsLag, IsShown, IsStaleFor, shows_store_loss, is_lost_by_store, is_lost_by_process, is_told_at_end, is_answered_at_end, lacks_to_end, shows_process_loss};
+ghost use Rattle.fy_records.specs.Found.{some_of, reaches, FindsOne, AreOfOne, AreApart, AreGathered};
 
 use crate::disks::{is_on_disk, is_on_no_disk};
 use crate::folds::{earliest_nanos, is_behind, known_from, latest};
 use crate::seen::{Seen, Test};
 use crate::{Index, Judged, Loss, MINUTE_NANOS, Verdict};
-use fy_history::{End, Place, Write};
+use fy_history::{End, Place, Read, Write};
 use std::alloc::{AllocError, Global};
 
 /// What a record is judged by, beside its reads.
@@ -131,12 +131,12 @@ pub(crate) fn last_lacking(written: Option<Place>, reads: &[Seen], test: Test) -
 /// The reads of the process that the first read asked, and those of others behind.
 pub(crate) fn split_process(reads: &[Seen]) -> (&[Seen], &[Seen])
     requires some { 0 < length reads.now }
-    requires gathered { IsNonDecreasingBy process_of reads.now }
+    requires gathered { AreGathered reads.now }
     ensures whole { reads.now ≡ result.0.now ++ result.1.now }
     ensures one { AreOfOne result.0.now }
     ensures apart { AreApart result.0.now result.1.now }
     ensures shorter { length result.1.now < length reads.now }
-    ensures rest { IsNonDecreasingBy process_of result.1.now }
+    ensures rest { AreGathered result.1.now }
 {
     let process = reads[0].process();
     reads.split_at(count_of_process(process, reads))
@@ -144,7 +144,7 @@ pub(crate) fn split_process(reads: &[Seen]) -> (&[Seen], &[Seen])
 
 /// The last answer of a process that lacks the record to the end, if it passes a test.
 pub(crate) fn lacking_to_end(written: Option<Place>, reads: &[Seen], test: Test) -> Option<Seen>
-    requires { IsNonDecreasingBy process_of reads.now }
+    requires { AreGathered reads.now }
     ensures { FindsOne (λ seen. lacks_to_end (some_of reads.now) written seen && passes test seen)
         reads.now result }
 {
@@ -162,7 +162,7 @@ pub(crate) fn lacking_to_end(written: Option<Place>, reads: &[Seen], test: Test)
 /// The last answer of a process that lacks the record to the end, if no read told it that began
 /// later.
 fn last_untold(case: Case, reads: &[Seen]) -> Option<Seen>
-    requires { IsNonDecreasingBy process_of reads.now }
+    requires { AreGathered reads.now }
     ensures { FindsOne (shows_process_loss (some_of reads.now) case) reads.now result }
 {
     let told = latest(reads, Test::Tells(case.value));
@@ -181,7 +181,7 @@ fn is_read_by_store(case: Case, reads: &[Seen]) -> bool
 /// The last answer of a process that lacks the record to the end, where the store as a whole
 /// answered no read, and no read told it that began later.
 pub(crate) fn lost_by_process(case: Case, reads: &[Seen]) -> Option<Seen>
-    requires { IsNonDecreasingBy process_of reads.now }
+    requires { AreGathered reads.now }
     ensures found { IfSome result (λ seen. FindsOne (shows_process_loss (some_of reads.now) case)
         reads.now (Some seen)) }
     ensures whether { is_some result ≡ is_lost_by_process (some_of reads.now) case }
@@ -232,7 +232,7 @@ fn told_wrongly(reads: &[Seen]) -> Option<Seen>
 
 /// The last answer of a process that counts as whole, if it lacks the record to the end.
 fn missing_from(case: Case, reads: &[Seen]) -> Option<Seen>
-    requires { IsNonDecreasingBy process_of reads.now }
+    requires { AreGathered reads.now }
     ensures found { FindsOne (shows_missing (some_of reads.now) case) reads.now result }
     ensures whether { is_some result ≡ is_missing (some_of reads.now) case }
 {
@@ -314,7 +314,7 @@ fn shown_by(verdict: Verdict, seen: Option<Seen>) -> Shown
 
 /// The verdict of a record, by its reads and what was found on disks.
 fn first_verdict(case: Case, reads: &[Seen], on_disk: bool, on_no_disk: bool) -> Shown
-    requires { IsNonDecreasingBy process_of reads.now }
+    requires { AreGathered reads.now }
     ensures verdict { result.verdict ≡ first_verdict (some_of reads.now) case on_disk on_no_disk }
     ensures shown { IsShown reads.now (shows (some_of reads.now) case result.verdict) result.seen }
     ensures stale { IsStaleFor reads.now case result.verdict result.seen result.stale_nanos }
@@ -352,7 +352,10 @@ fn first_verdict(case: Case, reads: &[Seen], on_disk: bool, on_no_disk: bool) ->
 }
 
 /// The verdict of an acknowledged record.
-fn judge(index: &Index, write: Write, acked: Place) -> Judged {
+fn judge(index: &Index, write: Write, acked: Place) -> Judged
+    requires { IsInOrder index.now }
+    ensures { (h : Lines) → IsIndexOf h index.now → IsJudged h write acked result }
+{
     let case = Case {
         value: write.value,
         since: acked,
@@ -366,16 +369,64 @@ fn judge(index: &Index, write: Write, acked: Place) -> Judged {
         write,
         acked,
         verdict: shown.verdict,
-        read: shown.seen.map(|seen| seen.read),
+        read: read_of(shown.seen),
         stale_nanos: shown.stale_nanos,
     }
 }
 
+/// The read itself.
+fn read_of(seen: Option<Seen>) -> Option<Read>
+    ensures { result ≡ option_map (λ (s : Seen). s.read) seen }
+{
+    match seen {
+        Some(seen) => Some(seen.read),
+        None => None,
+    }
+}
+
+/// The record of a key: its write, where it has one only.
+pub(crate) fn record_of(index: &Index, key: u32) -> Option<Write>
+    requires { IsInOrder index.now }
+    ensures { (h : Lines) → IsIndexOf h index.now → result ≡ record_of h key }
+{
+    only_write(index.writes_of(key))
+}
+
 /// The acknowledged record of a key, with its verdict.
-fn judge_key(index: &Index, key: u32) -> Option<Judged> {
-    let write = only_write(index.writes_of(key))?;
-    let acked = acked_at(&write)?;
-    Some(judge(index, write, acked))
+fn judge_key(index: &Index, key: u32) -> Option<Judged>
+    requires { IsInOrder index.now }
+    ensures { (h : Lines) → IsIndexOf h index.now → IsJudgedKey h key result }
+{
+    match record_of(index, key) {
+        Some(write) => match acked_at(&write) {
+            Some(acked) => Some(judge(index, write, acked)),
+            None => None,
+        },
+        None => None,
+    }
+}
+
+/// Adds what there is to a list.
+fn add(records: &mut Vec<Judged>, judged: Option<Judged>) -> Result<(), AllocError>
+    ensures { OnOk result (records.new.items ≡ records.old.items ++ list_of judged) }
+{
+    if let Some(judged) = judged {
+        records.push(judged)?;
+    }
+    Ok(())
+}
+
+/// The acknowledged records with their verdicts, by key.
+fn judge_keys(alloc: Global, index: &Index) -> Result<Vec<Judged>, AllocError>
+    requires { IsInOrder index.now }
+    ensures { IfOk result (λ records. (h : Lines) → IsIndexOf h index.now
+        → AreJudgedBelow h index.now.names records.items) }
+{
+    let mut records = Vec::new(alloc);
+    for key in 0..index.names() {
+        add(&mut records, judge_key(index, key))?;
+    }
+    Ok(records)
 }
 
 /// All acknowledged records of a history with their verdicts, in the order of their acks.
@@ -383,13 +434,12 @@ fn judge_key(index: &Index, key: u32) -> Option<Judged> {
 /// # Errors
 ///
 /// `AllocError` where an allocation fails.
-pub fn judge_records(alloc: Global, index: &Index) -> Result<Vec<Judged>, AllocError> {
-    let mut records = Vec::new(alloc);
-    for key in 0..index.names() {
-        if let Some(judged) = judge_key(index, key) {
-            records.push(judged)?;
-        }
-    }
+pub fn judge_records(alloc: Global, index: &Index) -> Result<Vec<Judged>, AllocError>
+    requires { IsInOrder index.now }
+    ensures { IfOk result (λ records. (h : Lines) → IsIndexOf h index.now
+        → AreJudged h records.items) }
+{
+    let mut records = judge_keys(alloc, index)?;
     records.sort_by_key(|judged| judged.acked.line)?;
     Ok(records)
 }

@@ -3,8 +3,8 @@ use Rattle.std.specs.Prelude.{◌==◌}
 use Rattle.std.specs.List.{prefix_len}
 use Rattle.fy_records.specs.Reads.{process_of}
 use Rattle.fy_records.specs.declared.seen.Seen.{Seen}
-use Rattle.fy_records.specs.Found.{AreOfOne, AreApart}
-use Rattle.fy_records.proofs.Processes.{front_of_one, split_apart, front_some}
+use Rattle.fy_records.specs.Found.{AreOfOne, AreApart, AreGathered}
+use Rattle.fy_records.proofs.Processes.{gathered_behind, front_of_one, split_apart, front_some}
 use Rattle.fy_records.proofs.judge.split_process.Goals as goal
 
 pub returns-clause-one : goal.returns-clause-one
@@ -27,3 +27,7 @@ pub returns-clause-shorter : goal.returns-clause-shorter
 returns-clause-shorter c =
     let some = front_some c.args.reads.now _ c.process-process.result c.requires.some c.process-process.ensures in
     omega (arith, some, c.count_of_process.ensures.count, c.split_at.ensures.back_len)
+
+pub returns-clause-rest : goal.returns-clause-rest
+returns-clause-rest c =
+    subst AreGathered (sym c.split_at.ensures.back) (gathered_behind c.count_of_process.result c.args.reads.now c.requires.gathered)
