@@ -120,3 +120,37 @@ none_at_last written test reads [] so none =
     let all = so.whole ∙ append_none so.done in
     subst (λ (ys : List Seen). list_any (λ seen. lacks_to_end (some_of reads) written seen && passes test seen) ys ≡ false) (sym all) so.none
 none_at_last written test reads (x ∷ rest) so none = absurd (omega (arith, none))
+
+-- some of the reads are passed, and those that are left asked other processes
+pub record Passed (reads rest : List Seen) : Type 0 where
+  pub done : List Seen
+  pub whole : reads ≡ done ++ rest
+  pub apart : (a b : Seen) → Contains done a → Contains rest b → same_process b a ≡ false
+
+pub passed_none : (reads : List Seen) → Passed reads reads
+passed_none reads = record { done = []; whole = refl; apart = λ a b at. absurd (omega (arith, at.1)) }
+
+pub passed_more : (reads rest chunk next : List Seen) → Passed reads rest → rest ≡ chunk ++ next → AreApart chunk next → Passed reads next
+passed_more reads rest chunk next so split apart = record {
+  done = so.done ++ chunk;
+  whole = so.whole ∙ ap (λ ys. so.done ++ ys) split ∙ sym (append_assoc so.done chunk next);
+  apart = λ a b at here. elim (Contains-append_cases so.done chunk a at) [
+    | inl before ↦ so.apart a b before (subst (λ (ys : List Seen). Contains ys b) (sym split) (Contains-append_right chunk next b here))
+    | inr within ↦ (apart a b within here).1
+  ];
+}
+
+-- an answer that lacks the record to the end among the reads of its process does so among all
+pub lacks_among : (written : Option Place) (test : Test) (reads rest chunk next : List Seen) (seen : Seen) → Passed reads rest
+    → rest ≡ chunk ++ next → AreApart chunk next
+    → FindsOne (λ seen. lacks_to_end (some_of chunk) written seen && passes test seen) chunk (Some seen)
+    → FindsOne (λ seen. lacks_to_end (some_of reads) written seen && passes test seen) reads (Some seen)
+lacks_among written test reads rest chunk next seen so split apart (there, holds) = (
+  subst (λ (ys : List Seen). Contains ys seen) (sym so.whole) (Contains-append_right so.done rest seen (subst (λ (ys : List Seen). Contains ys seen) (sym split) (Contains-append_left chunk next seen there))),
+  ap (λ (ys : List Seen). lacks_to_end (some_of ys) written seen && passes test seen) (so.whole ∙ ap (λ ys. so.done ++ ys) split)
+      ∙ ap (λ b. b && passes test seen) (lacks_within written so.done chunk next
+      (λ a b at here. so.apart a b at (subst (λ (ys : List Seen). Contains ys b) (sym split) (Contains-append_left chunk next b here)))
+      (λ a b at here. (apart a b at here).0)
+      seen there)
+      ∙ holds,
+)

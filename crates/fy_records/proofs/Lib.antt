@@ -9,3 +9,5 @@ pub mod Among
 pub mod SeenLemmas
 pub mod Same
 pub mod JudgedLemmas
+pub mod Gone
+pub mod Fewer

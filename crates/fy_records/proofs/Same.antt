@@ -18,6 +18,7 @@ use Rattle.fy_records.specs.declared.judge.Case.{Case}
 use Rattle.fy_records.specs.declared.seen.Seen.{Seen}
 use Rattle.fy_records.specs.declared.verdict.Verdict.{Verdict}
 use Rattle.fy_records.specs.declared.verdict.Verdict.TheVariants.{Lost, Wrong, Missing, Unreadable, Stale, Kept}
+use Rattle.fy_records.specs.Evidence.{is_held_by}
 use Rattle.fy_records.specs.Found.{some_of}
 use Rattle.fy_records.specs.Founds.{found_in, found_of, has_value, is_found, is_clear, is_clear_of, AreExtents}
 use Rattle.fy_records.specs.Reads.{Reads, tells}
@@ -210,3 +211,21 @@ same_record p xs ys same =
     (λ a at.
     let kept = kept_is p ys a at in
     kept_there p xs a (Contains-permutation ys xs a (IsPermutation-sym xs ys same) kept.0) kept.1)
+
+and_three : (a b c : Bool) → (a && (b && c)) ≡ ((a && b) && c)
+and_three true b c = refl
+and_three false b c = refl
+
+held_in : (key value process node : ℕ) (t : Trace) → option_map_or (λ found. (found.key == key) && is_held_by value process found) (found_in node t) false ≡ (has key value t && (node == process))
+held_in key value process node (trace.Has k v) = and_three (k == key) (v == value) (node == process)
+held_in key value process node (trace.Stands k) = and_none (k == key)
+held_in key value process node trace.All = refl
+held_in key value process node trace.Some = refl
+held_in key value process node trace.NothingElse = refl
+
+pub held_there : (disks : List DiskLine) (founds : List Found) (key value process : ℕ) → IsPermutation (filter_map found_of disks) founds
+    → list_any (is_held_by value process) (filter (λ found. found.key == key) founds)
+    ≡ list_any (λ line. has key value line.trace && (line.node == process)) disks
+held_there disks founds key value process same =
+    asked_of_disks disks founds key (is_held_by value process) same
+    ∙ any_agree _ _ disks (λ line at. held_in key value process line.node line.trace)

@@ -7,3 +7,4 @@ pub mod Pairs
 pub mod Indexed
 pub mod Verdicts
 pub mod Counted
+pub mod Evidence

@@ -2,9 +2,11 @@
 ghost use Rattle.std.specs.Prelude.{◌≡◌, ◌<◌, ◌+◌, ◌*◌, ◌^◌, ℕ, List, ◌==◌, ◌&&◌, ◌||◌, not, length, map, filter, filter_map, take, IfOk, OnOk};
 ghost use Rattle.std.specs.List.{list_any};
 ghost use Rattle.std.specs.List.Sorted.{IsPermutation, IsNonDecreasingBy};
-ghost use Rattle.fy_records.specs.Found.{AreGathered};
-ghost use Rattle.fy_records.specs.Indexed.{write_key, read_key, found_key, IsTable, IsIndexOf};
-ghost use Rattle.fy_records.specs.Lines.{is_undone, is_written, is_wrong, seen_of, seen_reads, lines_of};
+ghost use Rattle.fy_records.specs.Found.{some_of, AreGathered};
+ghost use Rattle.fy_records.specs.Founds.{is_found};
+ghost use Rattle.fy_records.specs.Traces.{is_on_disk};
+ghost use Rattle.fy_records.specs.Indexed.{write_key, read_key, found_key, IsInOrder, IsIndexOf};
+ghost use Rattle.fy_records.specs.Lines.{Lines, some_read, is_undone, is_written, is_wrong, seen_of, seen_reads, lines_of};
 ghost use Rattle.fy_records.specs.Pairs.{has_pair, ArePairs};
 ghost use Rattle.fy_history.specs.declared.history.Write.{Write};
 
@@ -210,7 +212,7 @@ impl Index {
 
     /// The writes of a key.
     pub(crate) fn writes_of(&self, key: u32) -> &[Write]
-        requires { IsTable write_key self.now.writes.items self.now.write_keys.items }
+        requires { IsInOrder self.now }
         ensures { result.now ≡ filter (λ write. write_key write == key) self.now.writes.items }
     {
         let (start, end) = range_of(&self.write_keys, key);
@@ -219,8 +221,11 @@ impl Index {
 
     /// The reads of a key, those of each process together.
     pub(crate) fn reads_of(&self, key: u32) -> &[Seen]
-        requires { IsTable read_key self.now.reads.items self.now.read_keys.items }
-        ensures { result.now ≡ filter (λ seen. read_key seen == key) self.now.reads.items }
+        requires { IsInOrder self.now }
+        ensures reads { result.now ≡ filter (λ seen. read_key seen == key) self.now.reads.items }
+        ensures gathered { AreGathered result.now }
+        ensures same { (h : Lines) → IsIndexOf h self.now
+            → some_of result.now ≡ some_read h key }
     {
         let (start, end) = range_of(&self.read_keys, key);
         &self.reads[start..end]
@@ -228,8 +233,11 @@ impl Index {
 
     /// What was found of a key on disks.
     pub(crate) fn founds_of(&self, key: u32) -> &[Found]
-        requires { IsTable found_key self.now.founds.items self.now.found_keys.items }
-        ensures { result.now ≡ filter (λ found. found_key found == key) self.now.founds.items }
+        requires { IsInOrder self.now }
+        ensures founds { result.now
+            ≡ filter (λ found. found_key found == key) self.now.founds.items }
+        ensures same { (h : Lines) (value : ℕ) → IsIndexOf h self.now
+            → is_found result.now value ≡ is_on_disk h.disks key value }
     {
         let (start, end) = range_of(&self.found_keys, key);
         &self.founds[start..end]
