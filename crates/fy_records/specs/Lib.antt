@@ -8,3 +8,4 @@ pub mod Indexed
 pub mod Verdicts
 pub mod Counted
 pub mod Evidence
+pub mod Worked

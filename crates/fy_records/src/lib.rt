@@ -8,6 +8,7 @@ mod folds;
 mod index;
 mod judge;
 mod keys;
+pub mod laws;
 mod seen;
 mod verdict;
 
