@@ -1,6 +1,6 @@
 -- the reads of one process among those of all
-use Rattle.std.proofs.Common.{◌≡◌, ◌<◌, ◌≤◌, ◌+◌, ℕ, Bool, true, false, ◌∙◌, List, [], ◌∷◌, ◌++◌, ◌||◌, ◌&&◌, not, length, Option, Some, None, refl, sym, ap, subst, inl, inr, ◌⊎◌, arith, append_assoc}
-use Rattle.std.specs.Prelude.{Contains, nat_lt, nat_le}
+use Rattle.std.proofs.Common.{◌≡◌, ◌+◌, Bool, false, ◌∙◌, List, [], ◌∷◌, ◌++◌, ◌||◌, ◌&&◌, not, length, Option, Some, None, refl, sym, ap, subst, inl, inr, arith, append_assoc}
+use Rattle.std.specs.Prelude.{Contains, nat_le}
 use Rattle.std.specs.List.{list_any}
 use Rattle.std.proofs.lemmas.List.Folds.{list_any-append}
 use Rattle.std.proofs.lemmas.List.Elements.{Contains-append_left, Contains-append_right, Contains-append_cases}
@@ -9,10 +9,10 @@ use Rattle.fy_records.specs.declared.TheConstants.{MINUTE_NANOS}
 use Rattle.fy_records.specs.declared.seen.Seen.{Seen}
 use Rattle.fy_records.specs.declared.seen.Test.{Test}
 use Rattle.fy_records.specs.Found.{some_of, AreApart, FindsOne}
-use Rattle.fy_records.specs.Reads.{lacks, is_of_store, is_answered, is_at_end, process_of, same_process, began_after, passes}
+use Rattle.fy_records.specs.Reads.{lacks, is_of_store, is_answered, is_at_end, same_process, began_after, passes}
 use Rattle.fy_records.specs.Verdicts.{lacks_to_end, is_last_answer, is_minute_behind}
 use Rattle.fy_records.proofs.Steps.{or_none}
-use Rattle.fy_records.proofs.Finding.{any_agree, contains_first, contains_other, contains_cases}
+use Rattle.fy_records.proofs.Finding.{any_agree, contains_first, contains_other}
 
 -- no element passes
 pub none_passes : {X : Type 0} (p : X → Bool) (xs : List X) → ((x : X) → Contains xs x → p x ≡ false) → list_any p xs ≡ false

@@ -1,11 +1,11 @@
 -- the lines of a key in a table that is sorted by key
-use Rattle.std.proofs.Common.{◌≡◌, ◌<◌, ◌≤◌, ◌+◌, ◌-◌, ℕ, zero, suc, Bool, true, false, cond, ◌∙◌, List, [], ◌∷◌, ◌++◌, length, take, drop, get_or, refl, sym, ap, subst, inl, inr, ◌⊎◌, arith}
+use Rattle.std.proofs.Common.{◌≡◌, ◌<◌, ◌≤◌, ◌+◌, ◌-◌, ℕ, zero, suc, Bool, true, false, cond, ◌∙◌, List, [], ◌∷◌, length, take, drop, get_or, refl, sym, ap, subst, arith}
 use Rattle.std.specs.Prelude.{nat_lt, nat_le, ◌==◌, filter, map, Contains}
 use Rattle.std.specs.List.{prefix_len}
 use Rattle.std.specs.List.Sorted.{IsPartitionPoint, IsNonDecreasingBy}
 use Rattle.std.proofs.lemmas.List.Sums.{prefix_len_is}
 use Rattle.fy_records.specs.Indexed.{IsTable}
-use Rattle.fy_records.proofs.Finding.{contains_first, contains_other, contains_cases}
+use Rattle.fy_records.proofs.Finding.{contains_first, contains_other}
 
 -- where a test holds of what stands before a place and of nothing behind, the longest front that
 -- passes ends there

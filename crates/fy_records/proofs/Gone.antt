@@ -1,7 +1,6 @@
 -- a record that was told, and is lost since
-use Rattle.std.proofs.Common.{◌≡◌, ◌<◌, ◌≤◌, ◌+◌, ◌∙◌, ℕ, Bool, true, false, ◌&&◌, ◌||◌, not, List, Option, Some, None, refl, sym, ap, subst, arith}
+use Rattle.std.proofs.Common.{◌≡◌, ◌+◌, ◌∙◌, ℕ, Bool, true, false, ◌&&◌, not, Option, Some, None, refl, sym, ap, arith}
 use Rattle.std.specs.Prelude.{Contains, nat_lt}
-use Rattle.std.specs.List.{list_any}
 use Rattle.std.proofs.lemmas.Bool.{false≢true}
 use Rattle.fy_history.specs.declared.history.Place.{Place}
 use Rattle.fy_history.specs.declared.history.Write.{Write}

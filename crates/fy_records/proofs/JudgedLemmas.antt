@@ -1,5 +1,5 @@
 -- a record is judged as its history is
-use Rattle.std.proofs.Common.{◌≡◌, ◌∙◌, ℕ, Bool, List, Option, Some, None, refl, sym, ap, subst}
+use Rattle.std.proofs.Common.{◌≡◌, ◌∙◌, ℕ, Bool, List, Option, refl, ap, subst}
 use Rattle.std.specs.Prelude.{◌==◌, filter, option_map}
 use Rattle.std.specs.List.Sorted.{IsPermutation}
 use Rattle.fy_history.specs.declared.history.Place.{Place}
@@ -7,13 +7,12 @@ use Rattle.fy_history.specs.declared.history.Read.{Read}
 use Rattle.fy_history.specs.declared.history.Write.{Write}
 use Rattle.fy_records.specs.declared.judge.Case.{Case}
 use Rattle.fy_records.specs.declared.seen.Seen.{Seen}
-use Rattle.fy_records.specs.declared.verdict.Judged.{Judged}
 use Rattle.fy_records.specs.declared.verdict.Verdict.{Verdict}
 use Rattle.fy_records.specs.Found.{some_of}
 use Rattle.fy_records.specs.Lines.{Lines, all_reads, reads_of, some_read}
 use Rattle.fy_records.specs.Reads.{Reads}
 use Rattle.fy_records.specs.Traces.{is_on_disk, is_on_no_disk}
-use Rattle.fy_records.specs.Verdicts.{first_verdict, verdict_of, shows, case_since, IsShown, IsStaleFor, IsJudged}
+use Rattle.fy_records.specs.Verdicts.{first_verdict, shows, case_since, IsShown, IsStaleFor, IsJudged}
 use Rattle.fy_records.proofs.Same.{SameReads, same_kept, same_some, shown_alike, stale_alike}
 
 -- what a record is judged by

@@ -1,6 +1,6 @@
 -- the reads of one process, and those of all of them together
-use Rattle.std.proofs.Common.{◌≡◌, ◌<◌, ◌≤◌, ◌+◌, ℕ, zero, suc, Bool, true, false, cond, ◌∙◌, List, [], ◌∷◌, ◌++◌, ◌||◌, ◌&&◌, not, length, take, drop, get_or, Option, Some, None, refl, sym, ap, subst, inl, inr, ◌⊎◌, arith, nat_eq, eqb-true, ltb-true}
-use Rattle.std.specs.Prelude.{Contains, nat_lt, nat_le, ◌==◌}
+use Rattle.std.proofs.Common.{◌≡◌, ◌<◌, ◌≤◌, ◌+◌, ℕ, zero, suc, Bool, true, false, cond, List, [], ◌∷◌, ◌&&◌, length, take, drop, get_or, Option, refl, sym, ap, subst, inl, inr, arith}
+use Rattle.std.specs.Prelude.{Contains, nat_le, ◌==◌}
 use Rattle.std.specs.List.{list_any, prefix_len}
 use Rattle.fy_history.specs.declared.history.Place.{Place}
 use Rattle.fy_records.specs.declared.TheConstants.{MINUTE_NANOS}

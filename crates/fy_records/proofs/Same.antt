@@ -1,7 +1,7 @@
 -- the lines of a key in a table are those of the history
-use Rattle.std.proofs.Common.{◌≡◌, ◌<◌, ◌≤◌, ◌+◌, ◌-◌, ◌∙◌, ℕ, zero, suc, Bool, true, false, cond, ◌&&◌, ◌||◌, not, List, [], ◌∷◌, ◌++◌, length, get_or, Option, Some, None, refl, sym, ap, subst, inl, inr, ◌⊎◌, arith}
+use Rattle.std.proofs.Common.{◌≡◌, ◌<◌, ◌∙◌, ℕ, zero, suc, Bool, true, false, cond, ◌&&◌, ◌||◌, not, List, [], ◌∷◌, length, Option, Some, None, refl, sym, ap, subst, inl, inr, arith}
 use Rattle.std.proofs.Math.Path.{fun_ext}
-use Rattle.std.specs.Prelude.{Contains, ◌==◌, nat_lt, filter, filter_map, slice_get, is_none, option_map}
+use Rattle.std.specs.Prelude.{Contains, ◌==◌, filter, filter_map, slice_get, is_none}
 use Rattle.std.specs.Option.{option_map_or}
 use Rattle.std.specs.List.{list_any, cons_option}
 use Rattle.std.specs.List.Sorted.{IsPermutation}
@@ -21,10 +21,10 @@ use Rattle.fy_records.specs.declared.verdict.Verdict.TheVariants.{Lost, Wrong, M
 use Rattle.fy_records.specs.Evidence.{is_held_by}
 use Rattle.fy_records.specs.Found.{some_of}
 use Rattle.fy_records.specs.Founds.{found_in, found_of, has_value, is_found, is_clear, is_clear_of, AreExtents}
-use Rattle.fy_records.specs.Reads.{Reads, tells}
-use Rattle.fy_records.specs.Lines.{Lines, only}
-use Rattle.fy_records.specs.Traces.{has, stands, says, is_all, is_nothing_else, is_on_disk, is_on_no_disk, is_looked_through, all_below}
-use Rattle.fy_records.specs.Verdicts.{first_verdict, shows, IsShown, IsStaleFor, IsKnown, IsToldAt, is_known_before, AreShownBy}
+use Rattle.fy_records.specs.Reads.{Reads}
+use Rattle.fy_records.specs.Lines.{only}
+use Rattle.fy_records.specs.Traces.{has, stands, says, is_on_disk, is_on_no_disk, all_below}
+use Rattle.fy_records.specs.Verdicts.{shows, IsShown, IsStaleFor, IsKnown, is_known_before}
 use Rattle.fy_records.proofs.Finding.{contains_first, contains_other, contains_cases, any_agree}
 use Rattle.fy_records.proofs.Gathered.{kept_is}
 

@@ -2,7 +2,6 @@
 use Rattle.std.proofs.Common.{◌≡◌, ◌<◌, ◌+◌, ◌∙◌, ℕ, zero, suc, Bool, List, [], ◌∷◌, ◌++◌, length, take, get_or, refl, ap, arith}
 use Rattle.fy_history.specs.declared.history.Read.{Read}
 use Rattle.fy_history.specs.declared.history.Write.{Write}
-use Rattle.fy_records.specs.declared.seen.Seen.{Seen}
 use Rattle.fy_records.specs.Lines.{seen_of, seen_reads}
 
 seen_next : (writes : List Write) (reads : List Read) (wholes : List Bool) (i : ℕ) (d : Read) (e : Bool) → i < length reads → i < length wholes

@@ -1,6 +1,5 @@
 -- steps of loops that look for the first or the last of reads
-use Rattle.std.proofs.Common.{◌≡◌, ◌<◌, ◌≤◌, ◌+◌, ◌^◌, ℕ, Bool, true, false, ◌&&◌, ◌||◌, ◌∙◌, List, take, length, get_or, arith, refl, sym, ap}
-use Rattle.std.specs.Prelude.{nat_lt, nat_le}
+use Rattle.std.proofs.Common.{◌≡◌, ◌<◌, ◌+◌, ℕ, Bool, true, false, ◌||◌, ◌∙◌, List, take, length, get_or, refl, sym, ap}
 use Rattle.std.specs.List.{list_any}
 use Rattle.std.proofs.lemmas.List.Folds.{list_any_more}
 

@@ -6,7 +6,6 @@ use Rattle.fy_history.specs.declared.history.End.{End}
 use Rattle.fy_history.specs.declared.history.End.TheVariants as end
 use Rattle.fy_history.specs.declared.history.Place.{Place}
 use Rattle.fy_history.specs.declared.history.Write.{Write}
-use Rattle.fy_records.specs.declared.seen.Seen.{Seen}
 use Rattle.fy_records.specs.declared.counts.Counts.{Counts}
 use Rattle.fy_records.specs.declared.counts.KeyCounts.{KeyCounts}
 use Rattle.fy_records.specs.declared.counts.Marks.{Marks}
@@ -94,27 +93,32 @@ is_unwritten h key = not (is_acknowledged h key) && some_read h key (λ seen. se
 abbrev pub is_twice : Lines → (key : ℕ) → Bool
 is_twice h key = some_read h key (λ seen. is_answered seen && nat_le 2 seen.read.times)
 
--- the verdict is one of these
+-- the record is lost
 abbrev pub is_lost : Verdict → Bool
 is_lost (Lost loss) = true
 is_lost _ = false
 
+-- it was told wrongly
 abbrev pub is_wrong : Verdict → Bool
 is_wrong Wrong = true
 is_wrong _ = false
 
+-- it is missing
 abbrev pub is_missing : Verdict → Bool
 is_missing Missing = true
 is_missing _ = false
 
+-- it is unreadable
 abbrev pub is_unreadable : Verdict → Bool
 is_unreadable Unreadable = true
 is_unreadable _ = false
 
+-- it is stale
 abbrev pub is_stale : Verdict → Bool
 is_stale Stale = true
 is_stale _ = false
 
+-- it is kept
 abbrev pub is_kept : Verdict → Bool
 is_kept Kept = true
 is_kept _ = false
@@ -151,14 +155,18 @@ stale_times records = filter_map stale_time records
 
 -- of numbers that rise, that which is at least as great as so many of a hundred of them
 abbrev pub at_percent : List ℕ → (percent : ℕ) → ℕ
-at_percent numbers percent = slice_index numbers (min (length numbers - 1) (length numbers * percent / 100))
+at_percent numbers percent =
+    slice_index numbers (min (length numbers - 1) (length numbers * percent / 100))
 
 -- the numbers at 0, 50, 95, 99 and 100 percent, where there is one
 abbrev pub quantiles_of : List ℕ → Option (List ℕ)
 quantiles_of [] = None
 quantiles_of (number ∷ numbers) =
     let all = number ∷ numbers in
-    Some (at_percent all 0 ∷ at_percent all 50 ∷ at_percent all 95 ∷ at_percent all 99 ∷ at_percent all 100 ∷ [])
+    Some (
+    at_percent all 0 ∷ at_percent all 50 ∷ at_percent all 95 ∷ at_percent all 99
+    ∷ at_percent all 100 ∷ []
+    )
 
 -- what is counted of the judged records
 pub record AreCounts (records : List Judged) (counts : Counts) : Type 0 where

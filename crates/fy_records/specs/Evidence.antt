@@ -1,7 +1,6 @@
 -- who tells a record, who lacks it and whose disk has it
 use Rattle.std.specs.Prelude.{◌≡◌, ℕ, ◌+◌, Bool, true, false, ◌&&◌, ◌==◌, List, Contains, Option, Some, None}
 use Rattle.std.specs.List.{list_any}
-use Rattle.fy_history.specs.declared.history.DiskLine.{DiskLine}
 use Rattle.fy_history.specs.declared.history.Place.{Place}
 use Rattle.fy_history.specs.declared.history.Write.{Write}
 use Rattle.fy_records.specs.declared.disks.Found.{Found}

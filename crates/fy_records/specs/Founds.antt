@@ -1,5 +1,5 @@
 -- what was found of keys on disks
-use Rattle.std.specs.Prelude.{◌≡◌, ◌<◌, ℕ, Bool, true, false, not, ◌&&◌, ◌||◌, ◌==◌, List, length, slice_get, Option, Some, None, is_none}
+use Rattle.std.specs.Prelude.{◌≡◌, ◌<◌, ℕ, Bool, false, not, ◌&&◌, ◌||◌, ◌==◌, List, length, slice_get, Option, Some, None, is_none}
 use Rattle.std.specs.List.{list_any}
 use Rattle.fy_history.specs.declared.history.DiskLine.{DiskLine}
 use Rattle.fy_history.specs.declared.history.Trace.{Trace}
@@ -34,14 +34,16 @@ is_found founds value = list_any (has_value value) founds
 
 -- an extent with one line more
 abbrev pub extent_with : Extent → Trace → Extent
-extent_with extent trace = record { whole = extent.whole || is_all trace; plain = extent.plain || is_nothing_else trace }
+extent_with extent trace =
+    record { whole = extent.whole || is_all trace; plain = extent.plain || is_nothing_else trace }
 
 -- a disk of this extent was looked through for the key of which so much was found
 abbrev pub is_clear : Option Extent → List Found → (node : ℕ) → Bool
 is_clear None founds node = false
 is_clear (Some extent) founds node =
     extent.whole
-    || (extent.plain && not (list_any (λ found. (found.node == node) && is_none found.value) founds))
+    || (extent.plain
+    && not (list_any (λ found. (found.node == node) && is_none found.value) founds))
 
 -- the disk of a process was
 abbrev pub is_clear_of : List Extent → List Found → (node : ℕ) → Bool

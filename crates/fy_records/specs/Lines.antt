@@ -50,7 +50,8 @@ is_done _ = false
 -- some write gave a key this value, or may have
 abbrev pub is_written : List Write → (key value : ℕ) → Bool
 is_written writes key value =
-    list_any (λ write. (write.key == key) && (write.value == value) && not (is_undone write.end)) writes
+    list_any (λ write.
+    (write.key == key) && (write.value == value) && not (is_undone write.end)) writes
 
 -- an answer tells a value that no write gave the key
 abbrev pub is_wrong : List Write → (key : ℕ) → Answer → Bool

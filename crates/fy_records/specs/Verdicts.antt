@@ -1,5 +1,5 @@
 -- what became of a record
-use Rattle.std.specs.Prelude.{◌≡◌, ℕ, zero, suc, [], ◌++◌, ◌+◌, ◌-◌, Bool, true, false, not, ◌&&◌, ◌||◌, ◌==◌, nat_lt, nat_le, List, Contains, ⊤, option_map, Option, Some, None, is_some, if◌then◌else◌, ◌⊎◌}
+use Rattle.std.specs.Prelude.{◌≡◌, ℕ, zero, suc, [], ◌++◌, ◌+◌, ◌-◌, Bool, true, false, not, ◌&&◌, ◌||◌, nat_lt, nat_le, List, Contains, ⊤, option_map, Option, Some, None, if◌then◌else◌, ◌⊎◌}
 use Rattle.std.specs.List.{list_any}
 use Rattle.std.specs.List.Sorted.{IsPermutation, IsNonDecreasingBy}
 use Rattle.fy_history.specs.declared.history.Place.{Place}
@@ -18,14 +18,16 @@ use Rattle.fy_records.specs.Traces.{is_on_disk, is_on_no_disk}
 
 -- a read that told the value began after another
 abbrev pub is_told_later : Reads → (value : ℕ) → Seen → Bool
-is_told_later some value seen = some (λ later. tells value later && began_after seen.read.began.line later)
+is_told_later some value seen =
+    some (λ later. tells value later && began_after seen.read.began.line later)
 
 -- (a) an answered read of the store as a whole, since the record has to be there, lacked it; no
 -- such read began later, nor any that told it
 abbrev pub shows_store_loss : Reads → Case → Seen → Bool
 shows_store_loss some c seen =
     lacks seen && is_store_read c.since.line seen
-    && not (some (λ later. is_store_read c.since.line later && began_after seen.read.began.line later))
+    && not (some (λ later.
+    is_store_read c.since.line later && began_after seen.read.began.line later))
     && not (is_told_later some c.value seen)
 
 -- the last answer of a process at the end: an answered read at the end that asked no other process
@@ -60,7 +62,8 @@ is_lost_by_store some c = some (shows_store_loss some c)
 
 -- lost by (b): the store as a whole answered no read, and a process shows it
 abbrev pub is_lost_by_process : Reads → Case → Bool
-is_lost_by_process some c = not (some (is_store_read c.since.line)) && some (shows_process_loss some c)
+is_lost_by_process some c =
+    not (some (is_store_read c.since.line)) && some (shows_process_loss some c)
 
 -- a read at the end was answered
 abbrev pub is_answered_at_end : Reads → Case → Bool
@@ -190,8 +193,8 @@ pub record IsJudged (h : Lines) (write : Write) (acked : Place) (judged : Judged
 abbrev pub IsJudgedKey : Lines → (key : ℕ) → Option Judged → Type 0
 IsJudgedKey h key None = acknowledged_at h key ≡ None
 IsJudgedKey h key (Some judged) =
-    (write : Write) × (acked : Place) × (record_of h key ≡ Some write) × (acked_at write ≡ Some acked)
-    × IsJudged h write acked judged
+    (write : Write) × (acked : Place) × (record_of h key ≡ Some write)
+    × (acked_at write ≡ Some acked) × IsJudged h write acked judged
 
 -- the judged records of the first keys, by key
 abbrev pub AreJudgedBelow : Lines → ℕ → List Judged → Type 0

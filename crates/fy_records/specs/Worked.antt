@@ -1,9 +1,9 @@
 -- histories that are written out: of three processes, with one write of the value 1 of the key 0,
 -- which began at line 0 and ended at line 1, a second later. The reads at the end begin behind line
 -- 100, at second 100
-use Rattle.std.specs.Prelude.{ℕ, ◌+◌, ◌*◌, Bool, true, false, List, [], ◌∷◌, map, Option, Some, None}
+use Rattle.std.specs.Prelude.{ℕ, ◌+◌, ◌*◌, true, false, List, [], ◌∷◌, map, Option, Some, None}
 use Rattle.fy_history.specs.declared.history.Answer.{Answer}
-use Rattle.fy_history.specs.declared.history.Answer.TheVariants.{Unanswered, Nothing, Value}
+use Rattle.fy_history.specs.declared.history.Answer.TheVariants.{Unanswered, Nothing}
 use Rattle.fy_history.specs.declared.history.DiskLine.{DiskLine}
 use Rattle.fy_history.specs.declared.history.End.{End}
 use Rattle.fy_history.specs.declared.history.End.TheVariants.{Done}

@@ -83,7 +83,8 @@ fn founds_on(alloc: Global, lines: &[DiskLine]) -> Result<Vec<Found>, AllocError
 pub(crate) fn founds_by_key(alloc: Global, lines: &[DiskLine]) -> Result<Vec<Found>, AllocError>
     ensures same { IfOk result (λ founds.
         IsPermutation (filter_map found_of lines.now) founds.items) }
-    ensures order { IfOk result (λ founds. IsNonDecreasingBy (λ (found : Found). found.key) founds.items) }
+    ensures order { IfOk result (λ founds.
+        IsNonDecreasingBy (λ (found : Found). found.key) founds.items) }
 {
     let mut founds = founds_on(alloc, lines)?;
     founds.sort_by_key(|found| found.key)?;

@@ -106,7 +106,8 @@ fn is_wrong(pairs: &[u64], read: &Read) -> bool
 /// A read as it is judged.
 fn seen_of(pairs: &[u64], read: Read, whole: bool) -> Seen
     requires { IsNonDecreasingBy (λ x. x) pairs.now }
-    ensures { (writes : List Write) → ArePairs writes pairs.now → result ≡ seen_of writes read whole }
+    ensures { (writes : List Write) → ArePairs writes pairs.now
+        → result ≡ seen_of writes read whole }
 {
     Seen {
         read,

@@ -248,7 +248,8 @@ fn is_unreadable(case: Case, reads: &[Seen], on_disk: bool) -> bool
 
 /// The first of the reads that lacks the record and began no earlier than at a line.
 fn lacking_since(line: u32, reads: &[Seen]) -> Option<Seen>
-    ensures { result ≡ find (λ seen. lacks seen && not (nat_lt seen.read.began.line line)) reads.now }
+    ensures { result
+        ≡ find (λ seen. lacks seen && not (nat_lt seen.read.began.line line)) reads.now }
 {
     reads
         .iter()
@@ -258,7 +259,8 @@ fn lacking_since(line: u32, reads: &[Seen]) -> Option<Seen>
 
 /// The last read that lacked the record, where one began behind a line.
 fn last_lacking_after(line: u32, reads: &[Seen]) -> Option<Seen>
-    ensures found { IfSome result (λ seen. FindsOne (is_last_lacking (some_of reads.now)) reads.now (Some seen)) }
+    ensures found { IfSome result (λ seen.
+        FindsOne (is_last_lacking (some_of reads.now)) reads.now (Some seen)) }
     ensures whether { is_some result
         ≡ list_any (λ seen. lacks seen && nat_lt line seen.read.began.line) reads.now }
 {
@@ -279,7 +281,8 @@ struct Lag {
 /// The last read that lacked the record, if it began after it was known.
 fn lag_of(case: Case, reads: &[Seen]) -> Option<Lag>
     ensures whether { is_some result ≡ is_stale (some_of reads.now) case }
-    ensures last { IfSome result (λ lag. FindsOne (is_last_lacking (some_of reads.now)) reads.now (Some lag.seen)) }
+    ensures last { IfSome result (λ lag.
+        FindsOne (is_last_lacking (some_of reads.now)) reads.now (Some lag.seen)) }
     ensures lag { IfSome result (λ lag. IsLag reads.now case lag.seen.read lag.nanos) }
 {
     let known = known_from(case.since, reads, case.value);

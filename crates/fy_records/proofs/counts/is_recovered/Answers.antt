@@ -1,9 +1,8 @@
-use Rattle.std.proofs.Common.{◌≡◌, ◌∙◌, ◌&&◌, ◌||◌, Bool, not, Option, sym, ap, subst}
+use Rattle.std.proofs.Common.{◌∙◌, Option, ap}
 use Rattle.fy_history.specs.declared.history.Place.{Place}
-use Rattle.fy_records.specs.Found.{some_of}
 use Rattle.fy_records.specs.Lines.{some_read}
 use Rattle.fy_records.specs.Reads.{Reads}
-use Rattle.fy_records.specs.Verdicts.{is_lost_by_store, is_lost_by_process, is_told_at_end, case_since}
+use Rattle.fy_records.specs.Verdicts.{is_told_at_end}
 use Rattle.fy_records.proofs.JudgedLemmas.{case_of}
 use Rattle.fy_records.proofs.counts.is_recovered.Goals as goal
 

@@ -1,5 +1,4 @@
 use Rattle.std.proofs.Common.{◌∙◌, ◌&&◌, ◌||◌, sym, ap}
-use Rattle.fy_records.specs.Counted.{is_refused}
 use Rattle.fy_records.specs.Founds.{is_found}
 use Rattle.fy_records.specs.Lines.{some_read}
 use Rattle.fy_records.specs.Reads.{Reads, tells}

@@ -1,4 +1,4 @@
-use Rattle.std.proofs.Common.{◌∙◌, List, length, ap}
+use Rattle.std.proofs.Common.{◌∙◌, length, ap}
 use Rattle.std.specs.Prelude.{nat_lt, ◌==◌}
 use Rattle.fy_history.specs.declared.history.Write.{Write}
 use Rattle.fy_records.proofs.Same.{same_long}

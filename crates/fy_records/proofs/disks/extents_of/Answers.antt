@@ -1,4 +1,4 @@
-use Rattle.std.proofs.Common.{arith, refl}
+use Rattle.std.proofs.Common.{arith}
 use Rattle.fy_records.proofs.Extents.{extents_more}
 use Rattle.fy_records.proofs.disks.extents_of.Goals as goal
 

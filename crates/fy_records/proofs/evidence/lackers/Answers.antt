@@ -1,4 +1,4 @@
-use Rattle.std.proofs.Common.{◌≡◌, ◌∙◌, Option, true, ap, sym}
+use Rattle.std.proofs.Common.{◌∙◌, Option, ap, sym}
 use Rattle.fy_history.specs.declared.history.Place.{Place}
 use Rattle.fy_records.specs.Evidence.{is_lacking_answer}
 use Rattle.fy_records.specs.Lines.{some_read}

@@ -1,5 +1,5 @@
-use Rattle.std.proofs.Common.{◌≡◌, ◌&&◌, true, Option, List, Some, None, ◌∙◌, ◌+◌, ◌++◌, ap, inl, inr, ◌⊎◌, arith, [], length}
-use Rattle.std.specs.Prelude.{Contains, ◌==◌}
+use Rattle.std.proofs.Common.{◌≡◌, ◌&&◌, true, Option, List, Some, None, ◌∙◌, ◌+◌, ◌++◌, ap, inl, inr, arith, length}
+use Rattle.std.specs.Prelude.{◌==◌}
 use Rattle.fy_history.specs.declared.history.Place.{Place}
 use Rattle.fy_records.specs.declared.evidence.Lacker.{Lacker}
 use Rattle.fy_records.specs.declared.seen.Seen.{Seen}

@@ -1,5 +1,4 @@
-use Rattle.std.proofs.Common.{◌≡◌, ◌<◌, ◌≤◌, ℕ, false, get_or, sym, arith}
-use Rattle.std.specs.Prelude.{◌==◌}
+use Rattle.std.proofs.Common.{sym}
 use Rattle.fy_records.proofs.Among.{not_among}
 use Rattle.fy_records.proofs.index.is_among.Goals as goal
 

@@ -1,5 +1,4 @@
 use Rattle.std.proofs.Common.{◌≡◌, take}
-use Rattle.std.specs.List.Sorted.{IsNonDecreasingBy}
 use Rattle.fy_records.specs.Lines.{seen_reads}
 use Rattle.fy_records.proofs.index.seen_reads.Given as goal
 

@@ -1,8 +1,6 @@
-use Rattle.std.proofs.Common.{◌≡◌, ◌∙◌, List, ◌&&◌, not, length, sym, ap, subst}
-use Rattle.std.specs.Prelude.{◌==◌}
+use Rattle.std.proofs.Common.{◌∙◌, List, ◌&&◌, not, length, ap}
 use Rattle.fy_records.specs.declared.disks.Extent.{Extent}
 use Rattle.fy_records.specs.declared.disks.Found.{Found}
-use Rattle.fy_records.specs.Found.{AreGathered}
 use Rattle.fy_records.specs.Founds.{is_found, is_clear_of}
 use Rattle.fy_records.specs.Traces.{all_below}
 use Rattle.fy_records.proofs.Same.{found_is_there, on_no_disk_is}

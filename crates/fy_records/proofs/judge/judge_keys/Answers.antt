@@ -1,4 +1,4 @@
-use Rattle.std.proofs.Common.{◌≡◌, ◌+◌, ℕ, suc, sym, subst, arith}
+use Rattle.std.proofs.Common.{◌≡◌, ◌+◌, ℕ, suc, subst, arith}
 use Rattle.fy_records.specs.Verdicts.{AreJudgedBelow}
 use Rattle.fy_records.proofs.judge.judge_keys.Goals as goal
 

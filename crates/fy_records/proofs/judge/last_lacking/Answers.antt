@@ -1,5 +1,5 @@
 use Rattle.std.proofs.Common.{◌≡◌, ◌∙◌, ◌&&◌, not, sym, ap, subst}
-use Rattle.std.specs.Prelude.{Contains, nat_lt, nat_le, find}
+use Rattle.std.specs.Prelude.{Contains, nat_lt}
 use Rattle.std.specs.List.{list_any}
 use Rattle.fy_records.specs.declared.TheConstants.{MINUTE_NANOS}
 use Rattle.fy_records.specs.declared.seen.Seen.{Seen}

@@ -1,5 +1,5 @@
-use Rattle.std.proofs.Common.{◌≡◌, ◌<◌, ◌∙◌, ◌&&◌, true, false, not, refl, sym, ap, subst, arith}
-use Rattle.std.specs.Prelude.{nat_lt, find}
+use Rattle.std.proofs.Common.{◌≡◌, ◌∙◌, ◌&&◌, true, false, not, refl, sym, ap, subst, arith}
+use Rattle.std.specs.Prelude.{nat_lt}
 use Rattle.fy_records.specs.declared.seen.Seen.{Seen}
 use Rattle.fy_records.specs.Found.{some_of, FindsOne}
 use Rattle.fy_records.specs.Reads.{lacks}

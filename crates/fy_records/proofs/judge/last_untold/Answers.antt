@@ -1,4 +1,4 @@
-use Rattle.std.proofs.Common.{◌≡◌, ◌&&◌, not, sym, ap}
+use Rattle.std.proofs.Common.{◌≡◌, ◌&&◌, not, ap}
 use Rattle.std.specs.Prelude.{nat_lt}
 use Rattle.fy_records.specs.declared.seen.Seen.{Seen}
 use Rattle.fy_records.specs.Found.{some_of}

@@ -1,4 +1,4 @@
-use Rattle.std.proofs.Common.{◌≡◌, ◌∙◌, ◌&&◌, not, sym, ap}
+use Rattle.std.proofs.Common.{◌∙◌, ◌&&◌, not, sym, ap}
 use Rattle.fy_records.specs.Found.{some_of}
 use Rattle.fy_records.specs.Verdicts.{shows_process_loss}
 use Rattle.fy_records.proofs.Finding.{found_or_not}

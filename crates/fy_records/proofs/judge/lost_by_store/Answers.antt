@@ -1,9 +1,9 @@
 use Rattle.std.proofs.Common.{◌≡◌, ◌∙◌, ◌&&◌, not, sym, ap, subst}
-use Rattle.std.specs.Prelude.{nat_lt, find}
+use Rattle.std.specs.Prelude.{nat_lt}
 use Rattle.fy_records.specs.declared.seen.Seen.{Seen}
 use Rattle.fy_records.specs.Found.{some_of, FindsOne}
 use Rattle.fy_records.specs.Reads.{lacks, is_store_read}
-use Rattle.fy_records.specs.Verdicts.{shows_store_loss, is_told_later}
+use Rattle.fy_records.specs.Verdicts.{shows_store_loss}
 use Rattle.fy_records.proofs.Finding.{finds_one, found_or_not}
 use Rattle.fy_records.proofs.judge.lost_by_store.Goals as goal
 

@@ -1,4 +1,4 @@
-use Rattle.std.proofs.Common.{◌≡◌, ◌<◌, ◌∙◌, List, take, drop, sym, ap, subst, arith}
+use Rattle.std.proofs.Common.{◌∙◌, List, take, drop, sym, ap, subst, arith}
 use Rattle.std.specs.Prelude.{◌==◌}
 use Rattle.std.specs.List.{prefix_len}
 use Rattle.fy_records.specs.Reads.{process_of}

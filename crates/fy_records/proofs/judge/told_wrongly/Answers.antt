@@ -1,6 +1,4 @@
-use Rattle.std.proofs.Common.{◌≡◌, refl, sym, subst}
-use Rattle.std.specs.Prelude.{find}
-use Rattle.fy_records.specs.declared.seen.Seen.{Seen}
+use Rattle.std.proofs.Common.{refl, sym, subst}
 use Rattle.fy_records.specs.Found.{FindsOne}
 use Rattle.fy_records.proofs.Finding.{finds_one, found_or_not}
 use Rattle.fy_records.proofs.judge.told_wrongly.Goals as goal

@@ -1,11 +1,11 @@
-use Rattle.std.proofs.Common.{◌≡◌, ◌+◌, ◌∙◌, ℕ, zero, suc, Bool, true, false, cond, List, [], ◌∷◌, ◌++◌, length, Option, Some, None, refl, sym, ap, arith, length-append}
+use Rattle.std.proofs.Common.{◌≡◌, ◌+◌, ◌∙◌, ℕ, zero, suc, cond, List, length, Option, Some, None, sym, ap, length-append}
 use Rattle.std.specs.Prelude.{is_some, option_and_then}
 use Rattle.std.proofs.lemmas.List.Sorted.{length_permutation}
 use Rattle.fy_history.specs.declared.history.Place.{Place}
 use Rattle.fy_history.specs.declared.history.Write.{Write}
 use Rattle.fy_records.specs.declared.verdict.Judged.{Judged}
 use Rattle.fy_records.specs.Counted.{count_below, is_acknowledged}
-use Rattle.fy_records.specs.Lines.{Lines, record_of, acked_at, acknowledged_at, list_of}
+use Rattle.fy_records.specs.Lines.{Lines, acked_at, list_of}
 use Rattle.fy_records.specs.Verdicts.{IsJudgedKey, AreJudgedBelow}
 use Rattle.fy_records.proofs.laws.all_are_judged.Goals as goal
 
