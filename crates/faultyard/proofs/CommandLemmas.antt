@@ -246,10 +246,10 @@ has_audit name given is task =
 -- and one that takes a seed has it
 pub has_seed : (name : Text) (given : ArgMatches) → TakesSeed name → IsTask (name, rows_of (found_of given)) → IsSomeAnd (one_of (codes "seed") (rows_of (found_of given))) IsSeed
 has_seed name given is task = elim task [
-      | inl (inl judge) ↦ absurd (no_seed name (codes "judge") judge (λ e. omega arith) is)
-      | inl (inr linear) ↦ absurd (no_seed name (codes "linear") linear (λ e. omega arith) is)
-      | inr has ↦ has.2 is
-    ]
+  | inl (inl judge) ↦ absurd (no_seed name (codes "judge") judge (λ e. omega arith) is)
+  | inl (inr linear) ↦ absurd (no_seed name (codes "linear") linear (λ e. omega arith) is)
+  | inr has ↦ has.2 is
+]
 
 -- what `u64` makes of a text that is a seed, by how its reader reads
 pub seed_read : {E : Type 0} (gives : List ℕ → Result ℕ E → Type 0) (o : Option Text) (r : Option ℕ) → IsSomeAnd o IsSeed → ((t : Text) → o ≡ Some t → ReadsOne gives t r)

@@ -42,9 +42,13 @@ const REFUTED: u8 = 5;
 /// The statuses of `verdict` for what became of the records, the last of them of `linear` too, where
 /// a key isn't linearizable.
 const UNREADABLE: u8 = 6;
+
 const STALE: u8 = 7;
+
 const WRONG: u8 = 8;
+
 const MISSING: u8 = 9;
+
 const LOST: u8 = 10;
 
 /// What is said of a plan that there isn't.
@@ -215,7 +219,14 @@ fn verdict_file(rt: &HostRuntime, path: &str, audit: &str) -> Result<Outcome, Hi
         return Err(HistoriesStop::Other(Stop::NoMemory));
     };
     let form = fy_verdict::Jsonl;
-    run_verdict(alloc, &config, &form, &mut audit, &mut lines, &mut rt.stdout())
+    run_verdict(
+        alloc,
+        &config,
+        &form,
+        &mut audit,
+        &mut lines,
+        &mut rt.stdout(),
+    )
 }
 
 /// Says which keys of the history on standard input aren't linearizable.
@@ -237,13 +248,7 @@ fn outcome_status(outcome: Outcome, fresh: bool) -> u8
         Outcome::Wrong => WRONG,
         Outcome::Missing => MISSING,
         Outcome::Unreadable => UNREADABLE,
-        Outcome::Stale => {
-            if fresh {
-                STALE
-            } else {
-                0
-            }
-        }
+        Outcome::Stale => { if fresh { STALE } else { 0 } }
         Outcome::Kept => 0,
     }
 }

@@ -109,7 +109,12 @@ pub fn write_histories_stop<W: Write>(stop: &HistoriesStop, writer: &mut W) -> R
 {
     match *stop {
         HistoriesStop::Line { number, fault } => {
-            write_numbered(writer, "history: line ", u64::from(number), fault_ending(fault))?;
+            write_numbered(
+                writer,
+                "history: line ",
+                u64::from(number),
+                fault_ending(fault),
+            )?;
             Ok(())
         }
         HistoriesStop::Other(stop) => write_stop(&stop, writer),

@@ -8,9 +8,9 @@ ghost use Rattle.fy_linear.specs.Linears.{Tells, any};
 use crate::judged::judge_history;
 use crate::spelling::Spelling;
 use fy_histories::HistoriesStop;
-use fy_streams::Stop;
 use fy_history::{Known, MOST_NODES, read_history};
 use fy_lines::write_bytes;
+use fy_streams::Stop;
 use std::alloc::Global;
 use std::io::{BufRead, Write};
 

@@ -91,12 +91,15 @@ fn shown_by(evidence: Evidence) -> (&'static str, [Option<Operation>; 4]) {
             ("BeforeWrite", [Some(read), Some(write), None, None])
         }
         Evidence::Nothing { ended, read } => ("Nothing", [Some(ended), Some(read), None, None]),
-        Evidence::Conflict { one, other } => ("Conflict", [
-            Some(one.first),
-            Some(one.last),
-            Some(other.first),
-            Some(other.last),
-        ]),
+        Evidence::Conflict { one, other } => (
+            "Conflict",
+            [
+                Some(one.first),
+                Some(one.last),
+                Some(other.first),
+                Some(other.last),
+            ],
+        ),
     }
 }
 

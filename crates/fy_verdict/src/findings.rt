@@ -8,8 +8,8 @@ use fy_history::History;
 use fy_holders::{Blame, Heal, Outages};
 use fy_locality::ProcSet;
 use fy_records::{
-    Counts, Index, Judged, Lacker, Loss, Verdict, count_records, disks_with, judge_records, lackers,
-    tellers,
+    Counts, Index, Judged, Lacker, Loss, Verdict, count_records, disks_with, judge_records,
+    lackers, tellers,
 };
 use std::alloc::{AllocError, Global};
 
@@ -38,7 +38,10 @@ pub enum Evidence {
         disks: Vec<u16>,
     },
     /// Of a missing record: who lacks it, and whose disk has it.
-    Missing { lacks: Vec<Lacker>, disks: Vec<u16> },
+    Missing {
+        lacks: Vec<Lacker>,
+        disks: Vec<u16>,
+    },
     /// Of any other.
     Other,
 }

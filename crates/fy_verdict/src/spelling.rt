@@ -123,19 +123,24 @@ fn verdict_word(verdict: Verdict) -> &'static str {
 fn write_read(line: &mut Writer, read: Option<Read>) -> Result<(), AllocError> {
     line.key("read")?;
     match read {
-        Some(Read {
-            ended: Some(ended), ..
-        }) => line.u64(u64::from(ended.line)),
+        Some(
+            Read {
+                ended: Some(ended),
+                ..
+            },
+        ) => line.u64(u64::from(ended.line)),
         _ => line.null(),
     }
 }
 
 /// Writes what a read told.
 fn write_told(line: &mut Writer, names: &Names, read: Option<Read>) -> Result<(), AllocError> {
-    if let Some(Read {
-        answer: Answer::Value(value),
-        ..
-    }) = read
+    if let Some(
+        Read {
+            answer: Answer::Value(value),
+            ..
+        },
+    ) = read
     {
         write_text(line, "told", names.text(value))?;
     }
@@ -151,7 +156,9 @@ fn write_front(line: &mut Writer, names: &Names, finding: &Finding) -> Result<()
     }
     write_number(line, "at", judged.acked.nanos)?;
     if let Evidence::Lost {
-        destroyed, disks, ..
+        destroyed,
+        disks,
+        ..
     } = &finding.evidence
     {
         write_set(line, "destroyed", destroyed)?;

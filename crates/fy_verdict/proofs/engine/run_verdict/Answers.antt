@@ -15,7 +15,9 @@ returns-clause-told g c = λ legal.
     c.in_ok-finding.finding.count c.in_ok-history.history c.in_ok-findings.findings
     c.in_ok-text.text.items c.worst_of.result
     (subst (λ (n : ℕ). IfSome (g.R.Read.remaining c.args.reader.now) (λ bytes. IsRead (record {
-      processes = n; entries = c.in_ok-finding.finding.count }) bytes c.in_ok-history.history)) all
+      processes = n;
+      entries = c.in_ok-finding.finding.count;
+    }) bytes c.in_ok-history.history)) all
     c.in_ok-history.ensures.read)
     (subst (λ (n : ℕ). IsFoundIn c.in_ok-history.history n c.in_ok-findings.findings) all
     c.in_ok-findings.ensures)
