@@ -39,16 +39,19 @@ const USAGE: u8 = 2;
 /// give.
 const REFUTED: u8 = 5;
 
-/// The statuses of `verdict` for what became of the records, the last of them of `linear` too, where
-/// a key isn't linearizable.
+/// The status of `verdict` where a record is unreadable.
 const UNREADABLE: u8 = 6;
 
+/// The status of `verdict` where a record was stale that may not be.
 const STALE: u8 = 7;
 
+/// The status of `verdict` where a read told what nobody wrote.
 const WRONG: u8 = 8;
 
+/// The status of `verdict` where a whole process lacks a record.
 const MISSING: u8 = 9;
 
+/// The status of `verdict` where a record is lost, and of `linear` where a key isn't linearizable.
 const LOST: u8 = 10;
 
 /// What is said of a plan that there isn't.
@@ -248,7 +251,8 @@ fn outcome_status(outcome: Outcome, fresh: bool) -> u8
         Outcome::Wrong => WRONG,
         Outcome::Missing => MISSING,
         Outcome::Unreadable => UNREADABLE,
-        Outcome::Stale => { if fresh { STALE } else { 0 } }
+        Outcome::Stale if fresh => STALE,
+        Outcome::Stale => 0,
         Outcome::Kept => 0,
     }
 }

@@ -394,7 +394,7 @@ pub fn read_task<'a>(alloc: Global, words: &'a [String]) -> Result<Task<'a>, cla
         "guard" => Ok(Task::Guard(config_of(given), after_of(given))),
         "show" => Ok(Task::Show(config_of(given), times_of(given))),
         "bears" => Ok(Task::Bears(config_of(given), form_of(given), after_of(given))),
-        "verdict" => { Ok(Task::Verdict(config_of(given), audit_of(given), is_fresh(given))) }
+        "verdict" => Ok(Task::Verdict(config_of(given), audit_of(given), is_fresh(given))),
         "linear" => Ok(Task::Linear),
         _ => unreachable!(),
     }
