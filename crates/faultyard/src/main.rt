@@ -366,5 +366,6 @@ fn stopped_judging(rt: &HostRuntime, stop: HistoriesStop) -> ExitCode
     ensures { exit_status result ≡ histories_status stop }
 {
     let _ = write_histories_stop(&stop, &mut rt.stderr());
-    ExitCode::from(stop.status())
+    let status = stop.status();
+    ExitCode::from(status)
 }
