@@ -12,11 +12,11 @@ returns-clause-told g c = λ legal.
     tells c.args.config.now (g.R.Read.remaining c.args.reader.now)
     (g.S.Spelling.spells c.args.form.now)
     (Appends (g.W.Write.contents c.args.writer.now) (g.W.Write.contents c.write_bytes.new.writer))
-    c.in_ok-finding.finding.count c.in_ok-history.history c.in_ok-findings.findings
+    c.in_ok-finding.field-0.finding.count c.in_ok-history.history c.in_ok-findings.findings
     c.in_ok-text.text.items c.worst_of.result
     (subst (λ (n : ℕ). IfSome (g.R.Read.remaining c.args.reader.now) (λ bytes. IsRead (record {
       processes = n;
-      entries = c.in_ok-finding.finding.count;
+      entries = c.in_ok-finding.field-0.finding.count;
     }) bytes c.in_ok-history.history)) all
     c.in_ok-history.ensures.read)
     (subst (λ (n : ℕ). IsFoundIn c.in_ok-history.history n c.in_ok-findings.findings) all
