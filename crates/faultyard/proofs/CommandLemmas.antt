@@ -49,14 +49,25 @@ plain_is_local c plain = by (is_empty (out-Command c).groups.items) (out-Command
 abbrev TakesConfig : Text → Type 0
 TakesConfig name =
     (name ≡ codes "run")
-    ⊎ ((name ≡ codes "check") ⊎ ((name ≡ codes "swarm") ⊎ ((name ≡ codes "simulate") ⊎ ((name ≡ codes "guard") ⊎ ((name ≡ codes "show") ⊎ (name ≡ codes "bears"))))))
+    ⊎ ((name ≡ codes "check") ⊎ ((name ≡ codes "swarm") ⊎ ((name ≡ codes "simulate") ⊎ ((name ≡ codes "guard") ⊎ ((name ≡ codes "show") ⊎ ((name ≡ codes "bears") ⊎ (name ≡ codes "verdict")))))))
 
 -- the subcommand takes a seed
 abbrev pub TakesSeed : Text → Type 0
 TakesSeed name = (name ≡ codes "swarm") ⊎ (name ≡ codes "simulate")
 
+-- the subcommand takes an audit that it needs
+abbrev pub TakesAudit : Text → Type 0
+TakesAudit name = name ≡ codes "verdict"
+
+-- the subcommand takes no word more
+abbrev pub TakesNothing : Text → Type 0
+TakesNothing name = (name ≡ codes "judge") ⊎ (name ≡ codes "linear")
+
 abbrev HasConfig : List Row → Type 0
 HasConfig rows = is_some (first_of (codes "CONFIG") rows) ≡ true
+
+abbrev HasAudit : List Row → Type 0
+HasAudit rows = is_some (first_of (codes "audit") rows) ≡ true
 
 -- the rows have a seed
 abbrev HasSeed : List Row → Type 0
@@ -65,8 +76,9 @@ HasSeed rows = IsSomeAnd (one_of (codes "seed") rows) IsSeed
 -- the subcommand's name and its rows are those of a task
 abbrev pub IsTask : Text × List Row → Type 0
 IsTask met =
-    (met.0 ≡ codes "judge")
-    ⊎ (TakesConfig met.0 × HasConfig met.1 × (TakesSeed met.0 → HasSeed met.1))
+    TakesNothing met.0
+    ⊎ (TakesConfig met.0 × HasConfig met.1 × (TakesSeed met.0 → HasSeed met.1)
+    × (TakesAudit met.0 → HasAudit met.1))
 
 some_is_some : {A : Type 0} (o : Option A) (x : A) → o ≡ Some x → is_some o ≡ true
 some_is_some o x is = ap is_some is
@@ -76,6 +88,12 @@ config_given : (s t : Shape) (words : List Text) → s ≡ t → AreFilling t.ru
 config_given s t words is fills wanted negates none =
     let value = required_value t [] words [] (codes "CONFIG") fills wanted negates (subst (λ u. level_fault u [] nothing_held words false [] ≡ []) is none) in
     subst (λ u. HasConfig (rows_at u words).1) (sym is) (some_is_some _ _ value.1)
+
+audit_given : (s t : Shape) (words : List Text) → s ≡ t → AreFilling t.rules → Requires (codes "audit") t.rules → t.subcommand_negates_reqs ≡ false
+    → level_fault s [] nothing_held words false [] ≡ [] → HasAudit (rows_at s words).1
+audit_given s t words is fills wanted negates none =
+    let value = required_value t [] words [] (codes "audit") fills wanted negates (subst (λ u. level_fault u [] nothing_held words false [] ≡ []) is none) in
+    subst (λ u. HasAudit (rows_at u words).1) (sym is) (some_is_some _ _ value.1)
 
 seed_of_value : (rows : List Row) → HasValue (codes "seed") rows → HasSeed rows
 seed_of_value rows value =
@@ -88,13 +106,20 @@ seed_given s t words is fills wanted negates none =
     subst (λ u. HasSeed (rows_at u words).1) (sym is) (seed_of_value (rows_at t words).1 value)
 
 -- the first letter of a name
-abbrev first_letter : Text → ℕ
+abbrev pub first_letter : Text → ℕ
 first_letter [] = 0
 first_letter (x ∷ xs) = x
 
 no_seed : (name other : Text) → name ≡ other → (first_letter other ≡ 115 → ⊥) → TakesSeed name → ⊥
 no_seed name other is differs (inl swarm) = differs (ap first_letter (sym is) ∙ ap first_letter swarm)
 no_seed name other is differs (inr simulate) = differs (ap first_letter (sym is) ∙ ap first_letter simulate)
+
+no_audit : (name other : Text) → name ≡ other → (first_letter other ≡ 118 → ⊥) → TakesAudit name → ⊥
+no_audit name other is differs verdict = differs (ap first_letter (sym is) ∙ ap first_letter verdict)
+
+no_nothing : (name other : Text) → name ≡ other → (first_letter other ≡ 106 → ⊥) → (first_letter other ≡ 108 → ⊥) → TakesNothing name → ⊥
+no_nothing name other is no_judge no_linear (inl judge) = no_judge (ap first_letter (sym is) ∙ ap first_letter judge)
+no_nothing name other is no_judge no_linear (inr linear) = no_linear (ap first_letter (sym is) ∙ ap first_letter linear)
 
 no_show : (name : Text) → name ≡ codes "show" → TakesSeed name → ⊥
 no_show name show (inl swarm) = by (ap length (sym show ∙ swarm))
@@ -110,44 +135,58 @@ known_task : (s : Shape) (words : List Text) → IsIn s (built faultyard_command
     → IsTask (rows_at s words)
 known_task s words known other none =
     elim known [
-      | inl judge ↦ inl (ap (λ t. t.name) judge)
+      | inl judge ↦ inl (inl (ap (λ t. t.name) judge))
       | inr (inl run) ↦ inr (
         inl (ap (λ t. t.name) run),
         config_given s _ words run ((refl, refl, refl), ((refl, refl, refl), tt)) (inl (refl, refl)) refl none,
         λ seed. absurd (no_seed s.name (codes "run") (ap (λ t. t.name) run) (λ e. omega arith) seed),
+        λ audit. absurd (no_audit s.name (codes "run") (ap (λ t. t.name) run) (λ e. omega arith) audit),
       )
       | inr (inr (inl check)) ↦ inr (
         inr (inl (ap (λ t. t.name) check)),
         config_given s _ words check ((refl, refl, refl), ((refl, refl, refl), tt)) (inl (refl, refl)) refl none,
         λ seed. absurd (no_seed s.name (codes "check") (ap (λ t. t.name) check) (λ e. omega arith) seed),
+        λ audit. absurd (no_audit s.name (codes "check") (ap (λ t. t.name) check) (λ e. omega arith) audit),
       )
       | inr (inr (inr (inl swarm))) ↦ inr (
         inr (inr (inl (ap (λ t. t.name) swarm))),
         config_given s _ words swarm ((refl, refl, refl), ((refl, refl, refl), ((refl, refl, refl), tt))) (inl (refl, refl)) refl none,
         λ is. seed_given s _ words swarm ((refl, refl, refl), ((refl, refl, refl), ((refl, refl, refl), tt))) (inr (inl (refl, refl))) refl none,
+        λ audit. absurd (no_audit s.name (codes "swarm") (ap (λ t. t.name) swarm) (λ e. omega arith) audit),
       )
       | inr (inr (inr (inr (inl simulate)))) ↦ inr (
         inr (inr (inr (inl (ap (λ t. t.name) simulate)))),
         config_given s _ words simulate ((refl, refl, refl), ((refl, refl, refl), ((refl, refl, refl), ((refl, refl, refl), ((refl, refl, refl), tt))))) (inl (refl, refl)) refl none,
         λ is. seed_given s _ words simulate ((refl, refl, refl), ((refl, refl, refl), ((refl, refl, refl), ((refl, refl, refl), ((refl, refl, refl), tt))))) (inr (inl (refl, refl))) refl none,
+        λ audit. absurd (no_audit s.name (codes "simulate") (ap (λ t. t.name) simulate) (λ e. omega arith) audit),
       )
       | inr (inr (inr (inr (inr (inl guard))))) ↦ inr (
         inr (inr (inr (inr (inl (ap (λ t. t.name) guard))))),
         config_given s _ words guard ((refl, refl, refl), ((refl, refl, refl), ((refl, refl, refl), tt))) (inl (refl, refl)) refl none,
         λ seed. absurd (no_seed s.name (codes "guard") (ap (λ t. t.name) guard) (λ e. omega arith) seed),
+        λ audit. absurd (no_audit s.name (codes "guard") (ap (λ t. t.name) guard) (λ e. omega arith) audit),
       )
       | inr (inr (inr (inr (inr (inr (inl show)))))) ↦ inr (
         inr (inr (inr (inr (inr (inl (ap (λ t. t.name) show)))))),
         config_given s _ words show ((refl, refl, refl), ((refl, refl, refl), ((refl, refl, refl), tt))) (inl (refl, refl)) refl none,
         λ seed. absurd (no_show s.name (ap (λ t. t.name) show) seed),
+        λ audit. absurd (no_audit s.name (codes "show") (ap (λ t. t.name) show) (λ e. omega arith) audit),
       )
       | inr (inr (inr (inr (inr (inr (inr (inl bears))))))) ↦ inr (
-        inr (inr (inr (inr (inr (inr (ap (λ t. t.name) bears)))))),
+        inr (inr (inr (inr (inr (inr (inl (ap (λ t. t.name) bears))))))),
         config_given s _ words bears ((refl, refl, refl), ((refl, refl, refl), ((refl, refl, refl), ((refl, refl, refl), tt)))) (inl (refl, refl)) refl none,
         λ seed. absurd (no_seed s.name (codes "bears") (ap (λ t. t.name) bears) (λ e. omega arith) seed),
+        λ audit. absurd (no_audit s.name (codes "bears") (ap (λ t. t.name) bears) (λ e. omega arith) audit),
       )
-      | inr (inr (inr (inr (inr (inr (inr (inr (inl help)))))))) ↦ absurd (other (ap (λ t. t.name) help) (ap (λ t. t.aliases) help))
-      | inr (inr (inr (inr (inr (inr (inr (inr (inr none)))))))) ↦ absurd none
+      | inr (inr (inr (inr (inr (inr (inr (inr (inl verdict)))))))) ↦ inr (
+        inr (inr (inr (inr (inr (inr (inr (ap (λ t. t.name) verdict))))))),
+        config_given s _ words verdict ((refl, refl, refl), ((refl, refl, refl), ((refl, refl, refl), ((refl, refl, refl), tt)))) (inl (refl, refl)) refl none,
+        λ seed. absurd (no_seed s.name (codes "verdict") (ap (λ t. t.name) verdict) (λ e. omega arith) seed),
+        λ is. audit_given s _ words verdict ((refl, refl, refl), ((refl, refl, refl), ((refl, refl, refl), ((refl, refl, refl), tt)))) (inr (inl (refl, refl))) refl none,
+      )
+      | inr (inr (inr (inr (inr (inr (inr (inr (inr (inl linear))))))))) ↦ inl (inr (ap (λ t. t.name) linear))
+      | inr (inr (inr (inr (inr (inr (inr (inr (inr (inr (inl help)))))))))) ↦ absurd (other (ap (λ t. t.name) help) (ap (λ t. t.aliases) help))
+      | inr (inr (inr (inr (inr (inr (inr (inr (inr (inr (inr none)))))))))) ↦ absurd none
     ]
 
 meets_task : (words : List Text) → fault_of faultyard_command words ≡ [] → IsSomeAnd (subcommand_of faultyard_command words) IsTask
@@ -194,13 +233,23 @@ pub fails_by : (command : App) (words : List Text) (error : Error) → command �
     → HasKind (fault_of faultyard_command words) error
 fails_by command words error is has = subst (λ a. HasKind (fault_of a words) error) is (has (ap is_simple_and_free is ∙ command_is_simple))
 
--- and so one that is not `judge` has its cluster file
-pub has_config : (name : Text) (given : ArgMatches) → (name ≡ codes "judge" → ⊥) → IsTask (name, rows_of (found_of given)) → is_some (first_of (codes "CONFIG") (rows_of (found_of given))) ≡ true
-has_config name given other task = elim task [ inl judge ↦ absurd (other judge) | inr has ↦ has.1 ]
+-- and so one that is neither `judge` nor `linear` has its cluster file
+pub has_config : (name other : Text) (given : ArgMatches) → name ≡ other → (first_letter other ≡ 106 → ⊥) → (first_letter other ≡ 108 → ⊥) → IsTask (name, rows_of (found_of given))
+    → is_some (first_of (codes "CONFIG") (rows_of (found_of given))) ≡ true
+has_config name other given is no_judge no_linear task = elim task [ inl nothing ↦ absurd (no_nothing name other is no_judge no_linear nothing) | inr has ↦ has.1 ]
+
+-- and `verdict` has its audit
+pub has_audit : (name : Text) (given : ArgMatches) → TakesAudit name → IsTask (name, rows_of (found_of given)) → is_some (first_of (codes "audit") (rows_of (found_of given))) ≡ true
+has_audit name given is task =
+    elim task [ inl nothing ↦ absurd (no_nothing name (codes "verdict") is (λ e. omega arith) (λ e. omega arith) nothing) | inr has ↦ has.3 is ]
 
 -- and one that takes a seed has it
 pub has_seed : (name : Text) (given : ArgMatches) → TakesSeed name → IsTask (name, rows_of (found_of given)) → IsSomeAnd (one_of (codes "seed") (rows_of (found_of given))) IsSeed
-has_seed name given is task = elim task [ inl judge ↦ absurd (no_seed name (codes "judge") judge (λ e. omega arith) is) | inr has ↦ has.2 is ]
+has_seed name given is task = elim task [
+  | inl (inl judge) ↦ absurd (no_seed name (codes "judge") judge (λ e. omega arith) is)
+  | inl (inr linear) ↦ absurd (no_seed name (codes "linear") linear (λ e. omega arith) is)
+  | inr has ↦ has.2 is
+]
 
 -- what `u64` makes of a text that is a seed, by how its reader reads
 pub seed_read : {E : Type 0} (gives : List ℕ → Result ℕ E → Type 0) (o : Option Text) (r : Option ℕ) → IsSomeAnd o IsSeed → ((t : Text) → o ≡ Some t → ReadsOne gives t r)

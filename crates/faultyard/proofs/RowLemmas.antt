@@ -44,7 +44,8 @@ abbrev pub parser_for : Text → ValueParser
 parser_for id =
     if bytes_eq id (codes "seed") then Unsigned 0 largest_seed
     else (if bytes_eq id (codes "acts") then Unsigned 0 largest_seed
-    else (if bytes_eq id (codes "json") then Flag else String))
+    else (if bytes_eq id (codes "json") then Flag
+    else (if bytes_eq id (codes "fresh") then Flag else String)))
 
 -- the parser passes each of these
 abbrev pub PassAll : ValueParser → List Text → Type 0

@@ -1,12 +1,12 @@
 -- The program's command line: one level of subcommands, of which one is wanted.
-use Rattle.std.specs.Prelude.{◌≡◌, ◌≢◌, ◌↔◌, ◌⊎◌, ℕ, true, List, Option, Some, None, IsSomeAnd, codes, option_map}
+use Rattle.std.specs.Prelude.{◌≡◌, ◌≢◌, ◌↔◌, ◌⊎◌, ℕ, Bool, true, IsTrue, List, Option, Some, None, IsSomeAnd, codes, option_map}
 use Rattle.std.specs.Str.Parse.{digits_value, without_leading_plus}
 use Rattle.clap.specs.Words.{App, IsUnsignedIn, Row, Rule, Text, first_of, one_of, new_app}
 use Rattle.clap.specs.Words.{new_rule, with_rule, with_subcommand}
 use Rattle.clap.specs.declared.builder.action.ArgAction.TheVariants.{Set, SetTrue}
 use Rattle.clap.specs.declared.builder.value_parser.ValueParser.TheVariants.{Unsigned}
 use Rattle.faultyard.specs.declared.task.Task.{Task}
-use Rattle.faultyard.specs.declared.task.Task.TheVariants.{Judge, Run, Check, Swarm, Simulate, Guard, Show, Bears}
+use Rattle.faultyard.specs.declared.task.Task.TheVariants.{Judge, Run, Check, Swarm, Simulate, Guard, Show, Bears, Verdict, Linear}
 use Rattle.fy_players.specs.declared.faults.Plan.{Plan}
 use Rattle.fy_players.specs.declared.faults.Plan.TheVariants.{Mixed, Attrition, Swizzle, Rolling}
 use Rattle.fy_tolerance.specs.declared.reports.Form.{Form}
@@ -116,10 +116,37 @@ abbrev pub bears_command : App
 bears_command =
     with_rule (with_rule (with_rule (new_app (codes "bears")) config_rule) json_rule) after_rule
 
+-- the option `--audit`, which has to be there and has the file of an audit
+abbrev pub audit_rule : Rule
+audit_rule = record (new_rule (codes "audit")) {
+  long = Some (codes "audit");
+  action = Some Set;
+  required = true;
+  value_names = 1;
+}
+
+-- the flag `--fresh`
+abbrev pub fresh_rule : Rule
+fresh_rule = record (new_rule (codes "fresh")) {
+  long = Some (codes "fresh");
+  action = Some SetTrue;
+}
+
+-- the subcommand `verdict`, which takes a cluster file and an audit, and may take the flag
+abbrev pub verdict_command : App
+verdict_command =
+    with_rule (with_rule (with_rule (new_app (codes "verdict")) config_rule) audit_rule) fresh_rule
+
+-- the subcommand `linear`, which takes no word more
+abbrev pub linear_command : App
+linear_command = new_app (codes "linear")
+
 -- the command line of `faultyard`
 abbrev pub faultyard_command : App
 faultyard_command =
     with_subcommand
+    (with_subcommand
+    (with_subcommand
     (with_subcommand
     (with_subcommand
     (with_subcommand
@@ -131,7 +158,9 @@ faultyard_command =
     simulate_command.top)
     guard_command.top)
     show_command.top)
-    bears_command.top
+    bears_command.top)
+    verdict_command.top)
+    linear_command.top
 
 -- the text of a seed: a whole number of 64 bits
 abbrev pub IsSeed : Text → Type 0
@@ -144,6 +173,10 @@ seed_in text = digits_value 10 (without_leading_plus text)
 -- the form is that of programs just where the flag is set
 abbrev pub IsFormOf : Option Text → Form → Type 0
 IsFormOf flag form = (flag ≡ Some (codes "true")) ↔ (form ≡ Json)
+
+-- it is so just where the flag is set
+abbrev pub IsSetOf : Option Text → Bool → Type 0
+IsSetOf flag set = (flag ≡ Some (codes "true")) ↔ IsTrue set
 
 -- the number of acts that a text says, or the usual one
 abbrev pub IsActsOf : Option Text → ℕ → Type 0
@@ -185,6 +218,11 @@ StandsFor met (Bears config form after) =
     (met.0 ≡ codes "bears") × (first_of (codes "CONFIG") met.1 ≡ Some config.now)
     × IsFormOf (first_of (codes "json") met.1) form
     × (option_map (λ audit. audit.now) after ≡ first_of (codes "after") met.1)
+StandsFor met (Verdict config audit fresh) =
+    (met.0 ≡ codes "verdict") × (first_of (codes "CONFIG") met.1 ≡ Some config.now)
+    × (first_of (codes "audit") met.1 ≡ Some audit.now)
+    × IsSetOf (first_of (codes "fresh") met.1) fresh
+StandsFor met Linear = met.0 ≡ codes "linear"
 
 -- the task is the one that the matches' subcommand stands for
 abbrev pub IsTaskOf : Option (Text × List Row) → Task → Type 0

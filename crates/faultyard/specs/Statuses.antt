@@ -1,10 +1,14 @@
 -- the statuses that the program exits with
-use Rattle.std.specs.Prelude.{◌≡◌, ◌⊎◌, ℕ, Bool, true, false, Result, Ok, Err}
+use Rattle.std.specs.Prelude.{◌≡◌, ◌⊎◌, ℕ, Bool, true, false, Result, Ok, Err, if◌then◌else◌}
 use Rattle.clap.specs.declared.error.kind.ErrorKind.{ErrorKind}
 use Rattle.clap.specs.declared.error.kind.ErrorKind.TheVariants.{OutOfMemory, DisplayHelp, DisplayVersion}
 use Rattle.fy_streams.specs.Stops.{stop_status}
 use Rattle.fy_streams.specs.declared.stop.Stop.{Stop}
 use Rattle.fy_streams.specs.declared.stop.Stop.TheVariants.{Write, NoMemory}
+use Rattle.fy_histories.specs.Stops.{histories_status}
+use Rattle.fy_histories.specs.declared.stop.HistoriesStop.{HistoriesStop}
+use Rattle.fy_verdict.specs.declared.engine.Outcome.{Outcome}
+use Rattle.fy_verdict.specs.declared.engine.Outcome.TheVariants.{NotLegal, Lost, Wrong, Missing, Unreadable, Stale, Kept}
 
 -- the status of a command: 0 where it is done, 5 where an entry isn't what the rules give, else
 -- that of its stop
@@ -12,6 +16,28 @@ abbrev pub done_status : Result Bool Stop → ℕ
 done_status (Ok true) = 0
 done_status (Ok false) = 5
 done_status (Err stop) = stop_status stop
+
+-- the status of `verdict` for what became of the records: 5 where an entry isn't what the rules
+-- give, and where a record may not be stale 7 for one that was
+abbrev pub outcome_status : (fresh : Bool) → Outcome → ℕ
+outcome_status fresh NotLegal = 5
+outcome_status fresh Lost = 10
+outcome_status fresh Wrong = 8
+outcome_status fresh Missing = 9
+outcome_status fresh Unreadable = 6
+outcome_status fresh Stale = if fresh then 7 else 0
+outcome_status fresh Kept = 0
+
+-- the status of `verdict`
+abbrev pub judged_status : (fresh : Bool) → Result Outcome HistoriesStop → ℕ
+judged_status fresh (Ok outcome) = outcome_status fresh outcome
+judged_status fresh (Err stop) = histories_status stop
+
+-- the status of `linear`: 10 where a key isn't linearizable
+abbrev pub keys_status : Result Bool HistoriesStop → ℕ
+keys_status (Ok true) = 0
+keys_status (Ok false) = 10
+keys_status (Err stop) = histories_status stop
 
 -- the status of words that name no task: help and the version are written, or the writer failed;
 -- an allocation failed; or the words are wrong

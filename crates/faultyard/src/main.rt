@@ -5,7 +5,8 @@ ghost use Rattle.std.specs.Prelude.{◌≡◌, ◌≢◌, ◌⊎◌, IfErr};
 ghost use Rattle.std.specs.Process.{exit_status};
 ghost use Rattle.fy_streams.specs.Stops.{stop_status, IsConfigStop};
 ghost use Rattle.clap.specs.Values.{kind_of};
-ghost use Rattle.faultyard.specs.Statuses.{done_status, IsAnsweredStatus, IsUnreadStatus};
+ghost use Rattle.fy_histories.specs.Stops.{histories_status};
+ghost use Rattle.faultyard.specs.Statuses.{done_status, outcome_status, judged_status, keys_status, IsAnsweredStatus, IsUnreadStatus};
 
 mod task;
 
@@ -14,7 +15,9 @@ use fy_bears::{run_bears, run_bears_after};
 use fy_check::run_check;
 use fy_cluster::Config;
 use fy_guard::{run_guard, run_guard_after, write_whole};
+use fy_histories::{HistoriesStop, write_histories_stop};
 use fy_judge::run_judge;
+use fy_linear::run_linear;
 use fy_players::Plan;
 use fy_run::run_script;
 use fy_show::{run_show, run_show_by_time};
@@ -22,6 +25,7 @@ use fy_simulate::run_simulate;
 use fy_streams::{Stop, load_config, write_stop};
 use fy_swarm::run_swarm;
 use fy_tolerance::Form;
+use fy_verdict::{Outcome, run_verdict};
 use std::fs::File;
 use std::io::{BufReader, ErrorKind, Seek};
 use std::process::ExitCode;
@@ -31,8 +35,24 @@ use task::{Task, read_task};
 /// The status of a program whose words are no command.
 const USAGE: u8 = 2;
 
-/// The status of `check`, `show`, `bears` and `guard` where an entry isn't what the rules give.
+/// The status of `check`, `show`, `bears`, `guard` and `verdict` where an entry isn't what the rules
+/// give.
 const REFUTED: u8 = 5;
+
+/// The status of `verdict` where a record is unreadable.
+const UNREADABLE: u8 = 6;
+
+/// The status of `verdict` where a record was stale that may not be.
+const STALE: u8 = 7;
+
+/// The status of `verdict` where a read told what nobody wrote.
+const WRONG: u8 = 8;
+
+/// The status of `verdict` where a whole process lacks a record.
+const MISSING: u8 = 9;
+
+/// The status of `verdict` where a record is lost, and of `linear` where a key isn't linearizable.
+const LOST: u8 = 10;
 
 /// What is said of a plan that there isn't.
 const NO_PLAN: &str = "error: invalid value for '--plan <PLAN>'
@@ -57,6 +77,10 @@ fn main(rt: HostRuntime) -> ExitCode {
         Ok(Task::Guard(path, Some(after))) => return guard_after(&rt, path, after),
         Ok(Task::Show(path, times)) => show_file(&rt, path, times),
         Ok(Task::Bears(path, form, after)) => bears_file(&rt, path, form, after),
+        Ok(Task::Verdict(path, audit, fresh)) => {
+            return judged(&rt, verdict_file(&rt, path, audit), fresh);
+        }
+        Ok(Task::Linear) => return judged_keys(&rt, linear_input(&rt)),
         // Threads are main's to give.
         Ok(Task::Swarm(path, seed)) => match open_config(&rt, path) {
             Ok(config) => run_swarm(&rt, rt.alloc(), &config, seed, &mut rt.stdout()),
@@ -188,6 +212,72 @@ fn ended_after(rt: &HostRuntime, done: Result<bool, Stop>, audit: &mut File) -> 
     status
 }
 
+/// Says what became of each record of the history on standard input, of a run on the cluster of a
+/// file.
+fn verdict_file(rt: &HostRuntime, path: &str, audit: &str) -> Result<Outcome, HistoriesStop> {
+    let config = open_config(rt, path)?;
+    let mut audit = open_file(rt, audit)?;
+    let alloc = rt.alloc();
+    let Ok(mut lines) = BufReader::new(alloc, rt.stdin()) else {
+        return Err(HistoriesStop::Other(Stop::NoMemory));
+    };
+    let form = fy_verdict::Jsonl;
+    run_verdict(
+        alloc,
+        &config,
+        &form,
+        &mut audit,
+        &mut lines,
+        &mut rt.stdout(),
+    )
+}
+
+/// Says which keys of the history on standard input aren't linearizable.
+fn linear_input(rt: &HostRuntime) -> Result<bool, HistoriesStop> {
+    let alloc = rt.alloc();
+    let Ok(mut lines) = BufReader::new(alloc, rt.stdin()) else {
+        return Err(HistoriesStop::Other(Stop::NoMemory));
+    };
+    run_linear(alloc, &fy_linear::Jsonl, &mut lines, &mut rt.stdout())
+}
+
+/// The status for what became of the records of a history, where a record may be stale or not.
+fn outcome_status(outcome: Outcome, fresh: bool) -> u8
+    ensures { result ≡ outcome_status fresh outcome }
+{
+    match outcome {
+        Outcome::NotLegal => REFUTED,
+        Outcome::Lost => LOST,
+        Outcome::Wrong => WRONG,
+        Outcome::Missing => MISSING,
+        Outcome::Unreadable => UNREADABLE,
+        Outcome::Stale if fresh => STALE,
+        Outcome::Stale => 0,
+        Outcome::Kept => 0,
+    }
+}
+
+/// The status that `verdict` ends with. Where it stopped, its fault line is written.
+fn judged(rt: &HostRuntime, done: Result<Outcome, HistoriesStop>, fresh: bool) -> ExitCode
+    ensures { exit_status result ≡ judged_status fresh done }
+{
+    match done {
+        Ok(outcome) => ExitCode::from(outcome_status(outcome, fresh)),
+        Err(stop) => stopped_judging(rt, stop),
+    }
+}
+
+/// The status that `linear` ends with. Where it stopped, its fault line is written.
+fn judged_keys(rt: &HostRuntime, done: Result<bool, HistoriesStop>) -> ExitCode
+    ensures { exit_status result ≡ keys_status done }
+{
+    match done {
+        Ok(true) => ExitCode::SUCCESS,
+        Ok(false) => ExitCode::from(LOST),
+        Err(stop) => stopped_judging(rt, stop),
+    }
+}
+
 /// A file to read, by its path.
 fn open_file(rt: &HostRuntime, path: &str) -> Result<File, Stop>
     ensures { IfErr result (λ stop. (stop ≡ Stop.Read) ⊎ (stop ≡ Stop.NoMemory)) }
@@ -269,4 +359,13 @@ fn stopped(rt: &HostRuntime, stop: Stop) -> ExitCode
 {
     let _ = write_stop(&stop, &mut rt.stderr());
     ExitCode::from(stop.status())
+}
+
+/// Writes the fault line of a command that judges a history, as far as standard error takes it.
+fn stopped_judging(rt: &HostRuntime, stop: HistoriesStop) -> ExitCode
+    ensures { exit_status result ≡ histories_status stop }
+{
+    let _ = write_histories_stop(&stop, &mut rt.stderr());
+    let status = stop.status();
+    ExitCode::from(status)
 }

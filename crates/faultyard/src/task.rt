@@ -10,6 +10,7 @@ ghost use Rattle.faultyard.specs.Commands.{config_rule, run_command, check_comma
 ghost use Rattle.faultyard.specs.Commands.{seed_rule, swarm_command, guard_command, show_command, IsSeed, seed_in};
 ghost use Rattle.faultyard.specs.Commands.{acts_rule, plan_rule, simulate_command, IsActsOf, IsPlanOf};
 ghost use Rattle.faultyard.specs.Commands.{times_rule, json_rule, after_rule, bears_command, IsFormOf};
+ghost use Rattle.faultyard.specs.Commands.{audit_rule, fresh_rule, verdict_command, linear_command, IsSetOf};
 
 use clap::{Arg, ArgAction, ArgMatches, Command, value_parser};
 use fy_players::Plan;
@@ -29,7 +30,12 @@ Exit status:
   2  the command line is refused
   3  a read or a write failed, or a file can't be opened
   4  memory was refused
-  5  check, show, bears, guard: an entry of the audit isn't what the rules give"
+  5  check, show, bears, guard, verdict: an entry of the audit isn't what the rules give
+  6  verdict: a record is unreadable
+  7  verdict --fresh: a record was stale
+  8  verdict: a read told a value that nobody wrote
+  9  verdict: a process that is whole lacks a record
+  10 verdict: a record is lost; linear: a key isn't linearizable"
         )
     };
 }
@@ -44,7 +50,9 @@ const EXAMPLES: &str = with_statuses!(
   faultyard simulate examples/c6.toml --seed 7
   faultyard guard examples/c6.toml < examples/two-zones.jsonl
   faultyard show examples/c6.toml < examples/bad-day.audit > bad-day.svg
-  faultyard bears examples/c6.toml"
+  faultyard bears examples/c6.toml
+  faultyard verdict examples/c6.toml --audit examples/two-zones.audit < examples/lost.history
+  faultyard linear < examples/register.history"
 );
 
 /// What the program is asked to do.
@@ -72,6 +80,12 @@ pub enum Task<'a> {
     /// `faultyard bears CONFIG`: say what the cluster of a file bears, with `--json` in that form,
     /// and with `--after AUDIT` from the end of an audit on.
     Bears(&'a str, Form, Option<&'a str>),
+    /// `faultyard verdict CONFIG --audit FILE`: say what became of each record of the history on
+    /// standard input, of a run on the cluster of a file with this audit, and with `--fresh` that
+    /// no record may be stale.
+    Verdict(&'a str, &'a str, bool),
+    /// `faultyard linear`: say which keys of the history on standard input aren't linearizable.
+    Linear,
 }
 
 /// The subcommand `judge`, with its help.
@@ -271,6 +285,54 @@ fn bears<'a>(alloc: Global) -> Result<Command<'a>, AllocError>
         ))
 }
 
+/// The option with the file of the audit that the history was recorded beside.
+fn audit<'a>(alloc: Global) -> Arg<'a>
+    ensures rule { rule_of result ≡ audit_rule }
+    ensures own { result.global ≡ false }
+{
+    Arg::new(alloc, "audit")
+        .long("audit")
+        .value_name("FILE")
+        .required(true)
+        .action(ArgAction::Set)
+        .help("The audit of the run, a file")
+}
+
+/// The flag that no record may be stale.
+fn fresh<'a>(alloc: Global) -> Arg<'a>
+    ensures rule { rule_of result ≡ fresh_rule }
+    ensures own { result.global ≡ false }
+{
+    Arg::new(alloc, "fresh")
+        .long("fresh")
+        .action(ArgAction::SetTrue)
+        .help("A record that was stale gives status 7: the store promises fresh reads")
+}
+
+/// The subcommand `verdict`, with its help.
+fn verdict<'a>(alloc: Global) -> Result<Command<'a>, AllocError>
+    ensures { IfOk result (λ command. app_of command ≡ verdict_command) }
+{
+    Command::new(alloc, "verdict")
+        .about("Says what became of each record of a history, and whose fault each loss is")
+        .after_help(with_statuses!(
+            "Example:
+  faultyard verdict examples/c6.toml --audit examples/two-zones.audit < examples/lost.history"
+        ))
+        .arg(config(alloc))?
+        .arg(audit(alloc))?
+        .arg(fresh(alloc))
+}
+
+/// The subcommand `linear`, with its help.
+fn linear<'a>(alloc: Global) -> Command<'a>
+    ensures { app_of result ≡ linear_command }
+{
+    Command::new(alloc, "linear")
+        .about("Says which keys of a history aren't linearizable registers")
+        .after_help(with_statuses!("Example:\n  faultyard linear < examples/register.history"))
+}
+
 /// The command line without its subcommands, of which one is wanted.
 fn bare<'a>(alloc: Global) -> Command<'a>
     ensures { app_of result ≡ bare_command }
@@ -296,7 +358,9 @@ fn faultyard<'a>(alloc: Global) -> Result<Command<'a>, AllocError>
         .subcommand(simulate(alloc)?)?
         .subcommand(guard(alloc)?)?
         .subcommand(show(alloc)?)?
-        .subcommand(bears(alloc)?)
+        .subcommand(bears(alloc)?)?
+        .subcommand(verdict(alloc)?)?
+        .subcommand(linear(alloc))
 }
 
 /// The task that the words ask for; the first word is the program's name.
@@ -330,6 +394,8 @@ pub fn read_task<'a>(alloc: Global, words: &'a [String]) -> Result<Task<'a>, cla
         "guard" => Ok(Task::Guard(config_of(given), after_of(given))),
         "show" => Ok(Task::Show(config_of(given), times_of(given))),
         "bears" => Ok(Task::Bears(config_of(given), form_of(given), after_of(given))),
+        "verdict" => Ok(Task::Verdict(config_of(given), audit_of(given), is_fresh(given))),
+        "linear" => Ok(Task::Linear),
         _ => unreachable!(),
     }
 }
@@ -394,6 +460,27 @@ fn after_of<'a>(given: &ArgMatches<'a>) -> Option<&'a str>
         ≡ first_of (codes "after") (rows_of (found_of given.now)) }
 {
     given.get_str("after")
+}
+
+/// The audit among the words of a subcommand that takes one.
+fn audit_of<'a>(given: &ArgMatches<'a>) -> &'a str
+    requires { is_some (first_of (codes "audit") (rows_of (found_of given.now))) ≡ true }
+    ensures { first_of (codes "audit") (rows_of (found_of given.now)) ≡ Some result.now }
+{
+    match given.get_str("audit") {
+        Some(audit) => audit,
+        None => unreachable!(),
+    }
+}
+
+/// Whether the words of a subcommand say that no record may be stale.
+fn is_fresh(given: &ArgMatches<'_>) -> bool
+    ensures { IsSetOf (first_of (codes "fresh") (rows_of (found_of given.now))) result }
+{
+    match given.get_str("fresh") {
+        Some("true") => true,
+        _ => false,
+    }
 }
 
 /// The file of events among the words of a subcommand, if one is named.

@@ -45,6 +45,8 @@ mod picture;
 #[cfg(test)]
 mod policy;
 #[cfg(test)]
+mod records;
+#[cfg(test)]
 mod shared;
 #[cfg(test)]
 mod single;

@@ -1,6 +1,6 @@
 # Completion of faultyard for fish.
 
-set -l commands judge run check swarm simulate guard show bears help
+set -l commands judge run check swarm simulate guard show bears verdict linear help
 
 complete -c faultyard -f
 complete -c faultyard -s h -l help -d "Print help"
@@ -22,9 +22,13 @@ complete -c faultyard -n "not __fish_seen_subcommand_from $commands" -a show \
     -d "Draws the audit on standard input as a picture, an SVG file"
 complete -c faultyard -n "not __fish_seen_subcommand_from $commands" -a bears \
     -d "Says how many processes, and which machines and zones, a cluster can lose"
+complete -c faultyard -n "not __fish_seen_subcommand_from $commands" -a verdict \
+    -d "Says what became of each record of a history, and whose fault each loss is"
+complete -c faultyard -n "not __fish_seen_subcommand_from $commands" -a linear \
+    -d "Says which keys of a history aren't linearizable registers"
 complete -c faultyard -n "not __fish_seen_subcommand_from $commands" -a help \
     -d "Print this message or the help of the given subcommand(s)"
-complete -c faultyard -n "__fish_seen_subcommand_from run check swarm simulate guard show bears" \
+complete -c faultyard -n "__fish_seen_subcommand_from run check swarm simulate guard show bears verdict" \
     -k -a "(__fish_complete_suffix .toml)"
 complete -c faultyard -n "__fish_seen_subcommand_from swarm simulate" -l seed -x \
     -d "What the plans of the actors are drawn from, from 0 to 2^64 - 1"
@@ -40,5 +44,9 @@ complete -c faultyard -n "__fish_seen_subcommand_from guard" -l after -r -F \
 complete -c faultyard -n "__fish_seen_subcommand_from bears" -l json -d "Writes one JSON object"
 complete -c faultyard -n "__fish_seen_subcommand_from bears" -l after -r -F \
     -d "The audit, a file, from whose last entry on losses are counted"
+complete -c faultyard -n "__fish_seen_subcommand_from verdict" -l audit -r -F \
+    -d "The audit of the run, a file"
+complete -c faultyard -n "__fish_seen_subcommand_from verdict" -l fresh \
+    -d "A record that was stale gives status 7: the store promises fresh reads"
 complete -c faultyard -n "__fish_seen_subcommand_from help" \
-    -a "judge run check swarm simulate guard show bears"
+    -a "judge run check swarm simulate guard show bears verdict linear"

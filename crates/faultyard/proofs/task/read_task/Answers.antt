@@ -1,8 +1,8 @@
-use Rattle.std.proofs.Common.{inl, inr, map}
+use Rattle.std.proofs.Common.{arith, codes, inl, inr, map}
 use Rattle.std.specs.Prelude.{string_bytes}
 use Rattle.std.proofs.lemmas.Result.{err_from_is_err_and}
-use Rattle.faultyard.proofs.CommandLemmas.{faultless, fails_by, has_config, has_seed, is_task_of, met_task}
-use Rattle.faultyard.specs.declared.task.Task.TheVariants.{Judge, Run, Check, Swarm, Simulate, Guard, Show, Bears}
+use Rattle.faultyard.proofs.CommandLemmas.{faultless, fails_by, has_audit, has_config, has_seed, is_task_of, met_task}
+use Rattle.faultyard.specs.declared.task.Task.TheVariants.{Judge, Run, Check, Swarm, Simulate, Guard, Show, Bears, Verdict, Linear}
 use Rattle.faultyard.proofs.task.read_task.Goals as goal
 
 pub returns-in-judge-clause-refused : goal.returns-in-judge-clause-refused
@@ -28,6 +28,12 @@ returns-in-show-clause-refused c = faultless _ (map string_bytes c.args.words.no
 
 pub returns-in-bears-clause-refused : goal.returns-in-bears-clause-refused
 returns-in-bears-clause-refused c = faultless _ (map string_bytes c.args.words.now) c.in_ok-faultyard.ensures c.in_ok-matches.ensures.kinds
+
+pub returns-in-verdict-clause-refused : goal.returns-in-verdict-clause-refused
+returns-in-verdict-clause-refused c = faultless _ (map string_bytes c.args.words.now) c.in_ok-faultyard.ensures c.in_ok-matches.ensures.kinds
+
+pub returns-in-linear-clause-refused : goal.returns-in-linear-clause-refused
+returns-in-linear-clause-refused c = faultless _ (map string_bytes c.args.words.now) c.in_ok-faultyard.ensures c.in_ok-matches.ensures.kinds
 
 pub returns-in_err-matches-clause-refused : goal.returns-in_err-matches-clause-refused
 returns-in_err-matches-clause-refused c =
@@ -69,18 +75,36 @@ pub returns-in-bears-clause-task : goal.returns-in-bears-clause-task
 returns-in-bears-clause-task c = is_task_of _ (map string_bytes c.args.words.now) c.in_ok-matches.matches c.in-Some.name.now c.in-Some.given.now (Bears c.config_of-in-bears.result c.form_of.result c.after_of-in-bears.result) c.in_ok-faultyard.ensures
     c.in_ok-matches.ensures.matches c.in-Some.ensures.name c.in-Some.ensures.rows (c.in-bears.is, c.config_of-in-bears.ensures, c.form_of.ensures, c.after_of-in-bears.ensures)
 
+pub returns-in-verdict-clause-task : goal.returns-in-verdict-clause-task
+returns-in-verdict-clause-task c = is_task_of _ (map string_bytes c.args.words.now) c.in_ok-matches.matches c.in-Some.name.now c.in-Some.given.now (Verdict c.config_of-in-verdict.result c.audit_of.result c.is_fresh.result) c.in_ok-faultyard.ensures
+    c.in_ok-matches.ensures.matches c.in-Some.ensures.name c.in-Some.ensures.rows (c.in-verdict.is, c.config_of-in-verdict.ensures, c.audit_of.ensures, c.is_fresh.ensures)
+
+pub returns-in-linear-clause-task : goal.returns-in-linear-clause-task
+returns-in-linear-clause-task c = is_task_of _ (map string_bytes c.args.words.now) c.in_ok-matches.matches c.in-Some.name.now c.in-Some.given.now Linear c.in_ok-faultyard.ensures
+    c.in_ok-matches.ensures.matches c.in-Some.ensures.name c.in-Some.ensures.rows c.in-linear.is
+
+pub config_of-requires-in-verdict : goal.config_of-requires-in-verdict
+config_of-requires-in-verdict c = has_config c.in-Some.name.now (codes "verdict") c.in-Some.given.now c.in-verdict.is (λ e. omega arith) (λ e. omega arith)
+    (met_task _ (map string_bytes c.args.words.now) c.in_ok-matches.matches c.in-Some.name.now c.in-Some.given.now c.in_ok-faultyard.ensures
+    c.in_ok-matches.ensures.kinds c.in_ok-matches.ensures.matches c.in-Some.ensures.name c.in-Some.ensures.rows)
+
+pub audit_of-requires : goal.audit_of-requires
+audit_of-requires c = has_audit c.in-Some.name.now c.in-Some.given.now c.in-verdict.is
+    (met_task _ (map string_bytes c.args.words.now) c.in_ok-matches.matches c.in-Some.name.now c.in-Some.given.now c.in_ok-faultyard.ensures
+    c.in_ok-matches.ensures.kinds c.in_ok-matches.ensures.matches c.in-Some.ensures.name c.in-Some.ensures.rows)
+
 pub config_of-requires-in-check : goal.config_of-requires-in-check
-config_of-requires-in-check c = has_config c.in-Some.name.now c.in-Some.given.now c.in-check.not-judge
+config_of-requires-in-check c = has_config c.in-Some.name.now (codes "check") c.in-Some.given.now c.in-check.is (λ e. omega arith) (λ e. omega arith)
     (met_task _ (map string_bytes c.args.words.now) c.in_ok-matches.matches c.in-Some.name.now c.in-Some.given.now c.in_ok-faultyard.ensures
     c.in_ok-matches.ensures.kinds c.in_ok-matches.ensures.matches c.in-Some.ensures.name c.in-Some.ensures.rows)
 
 pub config_of-requires-in-swarm : goal.config_of-requires-in-swarm
-config_of-requires-in-swarm c = has_config c.in-Some.name.now c.in-Some.given.now c.in-swarm.not-judge
+config_of-requires-in-swarm c = has_config c.in-Some.name.now (codes "swarm") c.in-Some.given.now c.in-swarm.is (λ e. omega arith) (λ e. omega arith)
     (met_task _ (map string_bytes c.args.words.now) c.in_ok-matches.matches c.in-Some.name.now c.in-Some.given.now c.in_ok-faultyard.ensures
     c.in_ok-matches.ensures.kinds c.in_ok-matches.ensures.matches c.in-Some.ensures.name c.in-Some.ensures.rows)
 
 pub config_of-requires-in-simulate : goal.config_of-requires-in-simulate
-config_of-requires-in-simulate c = has_config c.in-Some.name.now c.in-Some.given.now c.in-simulate.not-judge
+config_of-requires-in-simulate c = has_config c.in-Some.name.now (codes "simulate") c.in-Some.given.now c.in-simulate.is (λ e. omega arith) (λ e. omega arith)
     (met_task _ (map string_bytes c.args.words.now) c.in_ok-matches.matches c.in-Some.name.now c.in-Some.given.now c.in_ok-faultyard.ensures
     c.in_ok-matches.ensures.kinds c.in_ok-matches.ensures.matches c.in-Some.ensures.name c.in-Some.ensures.rows)
 
@@ -90,17 +114,17 @@ seed_of-requires-in-simulate c = has_seed c.in-Some.name.now c.in-Some.given.now
     c.in_ok-matches.ensures.kinds c.in_ok-matches.ensures.matches c.in-Some.ensures.name c.in-Some.ensures.rows)
 
 pub config_of-requires-in-guard : goal.config_of-requires-in-guard
-config_of-requires-in-guard c = has_config c.in-Some.name.now c.in-Some.given.now c.in-guard.not-judge
+config_of-requires-in-guard c = has_config c.in-Some.name.now (codes "guard") c.in-Some.given.now c.in-guard.is (λ e. omega arith) (λ e. omega arith)
     (met_task _ (map string_bytes c.args.words.now) c.in_ok-matches.matches c.in-Some.name.now c.in-Some.given.now c.in_ok-faultyard.ensures
     c.in_ok-matches.ensures.kinds c.in_ok-matches.ensures.matches c.in-Some.ensures.name c.in-Some.ensures.rows)
 
 pub config_of-requires-in-show : goal.config_of-requires-in-show
-config_of-requires-in-show c = has_config c.in-Some.name.now c.in-Some.given.now c.in-show.not-judge
+config_of-requires-in-show c = has_config c.in-Some.name.now (codes "show") c.in-Some.given.now c.in-show.is (λ e. omega arith) (λ e. omega arith)
     (met_task _ (map string_bytes c.args.words.now) c.in_ok-matches.matches c.in-Some.name.now c.in-Some.given.now c.in_ok-faultyard.ensures
     c.in_ok-matches.ensures.kinds c.in_ok-matches.ensures.matches c.in-Some.ensures.name c.in-Some.ensures.rows)
 
 pub config_of-requires-in-bears : goal.config_of-requires-in-bears
-config_of-requires-in-bears c = has_config c.in-Some.name.now c.in-Some.given.now c.in-bears.not-judge
+config_of-requires-in-bears c = has_config c.in-Some.name.now (codes "bears") c.in-Some.given.now c.in-bears.is (λ e. omega arith) (λ e. omega arith)
     (met_task _ (map string_bytes c.args.words.now) c.in_ok-matches.matches c.in-Some.name.now c.in-Some.given.now c.in_ok-faultyard.ensures
     c.in_ok-matches.ensures.kinds c.in_ok-matches.ensures.matches c.in-Some.ensures.name c.in-Some.ensures.rows)
 
@@ -110,7 +134,7 @@ seed_of-requires c = has_seed c.in-Some.name.now c.in-Some.given.now (inl c.in-s
     c.in_ok-matches.ensures.kinds c.in_ok-matches.ensures.matches c.in-Some.ensures.name c.in-Some.ensures.rows)
 
 pub config_of-requires : goal.config_of-requires
-config_of-requires c = has_config c.in-Some.name.now c.in-Some.given.now c.in-run.not-judge
+config_of-requires c = has_config c.in-Some.name.now (codes "run") c.in-Some.given.now c.in-run.is (λ e. omega arith) (λ e. omega arith)
     (met_task _ (map string_bytes c.args.words.now) c.in_ok-matches.matches c.in-Some.name.now c.in-Some.given.now c.in_ok-faultyard.ensures
     c.in_ok-matches.ensures.kinds c.in_ok-matches.ensures.matches c.in-Some.ensures.name c.in-Some.ensures.rows)
 
@@ -119,7 +143,8 @@ unreachable-requires-in_default-name c =
     let task = met_task _ (map string_bytes c.args.words.now) c.in_ok-matches.matches c.in-Some.name.now c.in-Some.given.now c.in_ok-faultyard.ensures
     c.in_ok-matches.ensures.kinds c.in_ok-matches.ensures.matches c.in-Some.ensures.name c.in-Some.ensures.rows in
     elim task [
-      | inl judge ↦ absurd (c.in_default-name.not-judge judge)
+      | inl (inl judge) ↦ absurd (c.in_default-name.not-judge judge)
+      | inl (inr linear) ↦ absurd (c.in_default-name.not-linear linear)
       | inr has ↦ elim has.0 [
         | inl run ↦ absurd (c.in_default-name.not-run run)
         | inr (inl check) ↦ absurd (c.in_default-name.not-check check)
@@ -127,6 +152,7 @@ unreachable-requires-in_default-name c =
         | inr (inr (inr (inl simulate))) ↦ absurd (c.in_default-name.not-simulate simulate)
         | inr (inr (inr (inr (inl guard)))) ↦ absurd (c.in_default-name.not-guard guard)
         | inr (inr (inr (inr (inr (inl show))))) ↦ absurd (c.in_default-name.not-show show)
-        | inr (inr (inr (inr (inr (inr bears))))) ↦ absurd (c.in_default-name.not-bears bears)
+        | inr (inr (inr (inr (inr (inr (inl bears)))))) ↦ absurd (c.in_default-name.not-bears bears)
+        | inr (inr (inr (inr (inr (inr (inr verdict)))))) ↦ absurd (c.in_default-name.not-verdict verdict)
       ]
     ]

@@ -1,0 +1,5 @@
+pub mod Texts
+pub mod Named
+pub mod Steps
+pub mod Reading
+pub mod Tellings

@@ -1,0 +1,5 @@
+pub mod Names
+pub mod Views
+pub mod Lines
+pub mod Progress
+pub mod Histories

@@ -1,0 +1,13 @@
+pub mod Steps
+pub mod Finding
+pub mod Processes
+pub mod Chunks
+pub mod Columns
+pub mod Extents
+pub mod Gathered
+pub mod Among
+pub mod SeenLemmas
+pub mod Same
+pub mod JudgedLemmas
+pub mod Gone
+pub mod Fewer

@@ -1,0 +1,11 @@
+pub mod Reads
+pub mod Traces
+pub mod Founds
+pub mod Found
+pub mod Lines
+pub mod Pairs
+pub mod Indexed
+pub mod Verdicts
+pub mod Counted
+pub mod Evidence
+pub mod Worked

@@ -1,0 +1,1 @@
+repeated 65537 a; printf '\n'

@@ -1,0 +1,1 @@
+repeated 65536 a; printf '\n'
