@@ -46,6 +46,7 @@ text_in name value = option_and_then as_str (get name value)
 abbrev pub half_of : (place : ℕ) → Json → Option Json
 half_of place pair = if is_some (at 2 pair) then None else at place pair
 
+-- what stands at a place of the pair `value`
 abbrev pub half : (place : ℕ) → Json → Option Json
 half place value = option_and_then (half_of place) (get (codes "value") value)
 
@@ -74,6 +75,7 @@ abbrev pub node_from : Json → Json → Option (Option ℕ)
 node_from value node =
     if is_null node then Some None else option_map Some (number_in MOST_NODES (codes "node") value)
 
+-- the member `node`: the process that was asked, or the store as a whole
 abbrev pub node_in : Json → Option (Option ℕ)
 node_in value = option_and_then (node_from value) (get (codes "node") value)
 
@@ -94,6 +96,7 @@ ask_by f value =
     else if bytes_eq f (codes "read") then read_in value
     else None
 
+-- what a line asks
 abbrev pub ask_in : Json → Option (Ask Text)
 ask_in value = option_and_then (λ f. ask_by f value) (text_in (codes "f") value)
 
@@ -138,6 +141,7 @@ undone fails value =
     else if is_no (text_in (codes "error") value) then outcome.Refused
     else outcome.Unknown
 
+-- how what was asked ended that isn't known to be done, if the line says no more than that
 abbrev pub undone_in : (fails : Bool) → Ask Text → Json → Option (Outcome Text)
 undone_in fails asked value =
     if has_error_text value && is_bare asked value then Some (undone fails value) else None
@@ -189,10 +193,12 @@ client_event_of client asked kind value =
     else if bytes_eq kind (codes "invoke") then begins client asked value
     else option_map (event.Ends client asked) (outcome_in kind asked value)
 
+-- the line of a client that asks so, by its type
 abbrev pub client_asks : (client : ℕ) → Json → Ask Text → Option (Event Text)
 client_asks client value asked =
     option_and_then (λ kind. client_event_of client asked kind value) (text_in (codes "type") value)
 
+-- what happened at a client
 abbrev pub client_event : Json → Option (Event Text)
 client_event value =
     option_and_then (λ client. option_and_then (client_asks client value) (ask_in value))
@@ -247,12 +253,14 @@ abbrev pub disk_found : (of_records : Bool) → (kind : Text) → Json → Optio
 disk_found of_records kind value =
     if of_records then salvage_found kind value else plain_found kind value
 
+-- what was found on a disk, by its type
 abbrev pub disk_by : (of_records : Bool) → Json → (kind : Text) → Option (Event Text)
 disk_by of_records value kind =
     if not (has_disk_names (bytes_eq kind (codes "told")) value) then None
     else option_and_then (λ node. option_map (event.Disk node) (disk_found of_records kind value))
     (number_in MOST_NODES (codes "node") value)
 
+-- what was found on a disk
 abbrev pub disk_event : (of_records : Bool) → Json → Option (Event Text)
 disk_event of_records value =
     option_and_then (disk_by of_records value) (text_in (codes "type") value)
@@ -272,6 +280,7 @@ event_by value f =
     else if bytes_eq f (codes "plain") then disk_event false value
     else client_event value
 
+-- what happened
 abbrev pub event_in : Json → Option (Event Text)
 event_in value = option_and_then (event_by value) (text_in (codes "f") value)
 

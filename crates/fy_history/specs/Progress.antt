@@ -182,26 +182,29 @@ after outcome.Failed = client.Idle
 after outcome.Refused = client.Gone
 after outcome.Unknown = client.Gone
 
--- the write of a place, if it gives this value to this key
+-- the write gives this value to this key
 abbrev pub is_write_of : List Text → (key value : Text) → Write → Bool
 is_write_of names key value write =
     bytes_eq (text_at names write.key) key && bytes_eq (text_at names write.value) value
 
+-- the write at a place, if it gives this value to this key
 abbrev pub pending_write : State → (place : ℕ) → (key value : Text) → Option Write
 pending_write s place key value =
     option_map_or (λ write. if is_write_of s.names key value write then Some write else None)
     (slice_get s.writes place) None
 
--- the read of a place, if it asks this for this key
+-- the same process was asked, or both times the store as a whole
 abbrev pub same_node : Option ℕ → Option ℕ → Bool
 same_node None None = true
 same_node (Some a) (Some b) = nat_eq a b
 same_node _ _ = false
 
+-- the read asks for this key, and the same process or the store as a whole
 abbrev pub is_read_of : List Text → (key : Text) → Option ℕ → Read → Bool
 is_read_of names key node read =
     bytes_eq (text_at names read.key) key && same_node read.node node
 
+-- the read at a place, if it asks this for this key
 abbrev pub pending_read : State → (place : ℕ) → (key : Text) → Option ℕ → Option Read
 pending_read s place key node =
     option_map_or (λ read. if is_read_of s.names key node read then Some read else None)

@@ -30,6 +30,7 @@ written_by Done write =
     Some (operation write.key (act.Write write.value) write.began (line_of write.ended))
 written_by _ write = Some (operation write.key (act.Write write.value) write.began None)
 
+-- the operation of a write, if it may have been done
 abbrev pub written : Write → Option Keyed
 written write = written_by write.end write
 
@@ -42,6 +43,7 @@ answered_by None Nothing read =
 answered_by None (Value value) read =
     Some (operation read.key (act.Read (Some value)) read.began (line_of read.ended))
 
+-- the operation of a read, if the store as a whole answered it
 abbrev pub answered : Read → Option Keyed
 answered read = answered_by read.node read.answer read
 
