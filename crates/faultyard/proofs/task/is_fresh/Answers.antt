@@ -1,4 +1,4 @@
-use Rattle.std.proofs.Common.{rules, ◌≡◌, ◌∙◌, None, Some, codes, refl, sym, ap, option_map}
+use Rattle.std.proofs.Common.{rules, ◌≡◌, ◌∙◌, true, false, None, Some, codes, refl, sym, ap, option_map}
 use Rattle.clap.specs.Words.{found_of}
 use Rattle.clap.proofs.WalkLemmas.{first_value-rows}
 use Rattle.faultyard.proofs.task.is_fresh.Goals as goal
@@ -15,7 +15,7 @@ returns-in_default c = (
       let same : Some c.in_default.field-0.now ≡ Some (codes "true") =
       sym (ap (option_map (λ s. s.now)) c.in_default.is) ∙ (c.get_str.ensures ∙ (first_value-rows (found_of c.args.given.now) (codes "fresh") ∙ flag)) in
       absurd (c.in_default.not-true (search rules)),
-  λ set. absurd (search rules),
+  λ set. let bad : false ≡ true = set in absurd (search rules),
 )
 
 pub returns-in_default-2 : goal.returns-in_default-2
@@ -24,5 +24,5 @@ returns-in_default-2 c = (
       let bad : None ≡ Some (codes "true") =
       sym (ap (option_map (λ s. s.now)) c.in_default.is) ∙ (c.get_str.ensures ∙ (first_value-rows (found_of c.args.given.now) (codes "fresh") ∙ flag)) in
       absurd (search rules),
-  λ set. absurd (search rules),
+  λ set. let bad : false ≡ true = set in absurd (search rules),
 )
