@@ -39,7 +39,7 @@ Judged = dict[str, set[str]]  # the keys of each verdict
 def drawn(seed: int) -> tuple[Toy, list[object]]:
     """A store, and the words of a run."""
     dice = Random(f"seeds {seed}")
-    modes = [make(dice) for make in dice.sample(MODES, dice.choice([0, 0, 1, 1, 1, 2]))]
+    modes = [make(dice) for make in dice.sample(MODES, dice.choice([0, 1, 1, 2, 2]))]
     some = {"check": 0.8, "salvage": 0.6, "join": 0.5}
     listed = " ".join([BARE, *(name for name, part in some.items() if dice.random() < part)])
     toy = Toy(seed, *modes, listed=listed, pace=0.2, boots=dice.uniform(0.1, 1.0))
