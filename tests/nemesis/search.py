@@ -26,18 +26,23 @@ def operations(lines: Sequence[Mapping[str, Any]]) -> dict[str, list[Operation]]
 
 def is_linearizable(those: Sequence[Operation]) -> bool:
     """Whether there is an order, in which each comes that has ended, and each read tells the last
-    write; what ended before another began comes before it."""
-    seen, ways = set(), [(frozenset(range(len(those))), None)]
+    write; what ended before another began comes before it. Each value is written once, so all reads
+    of one come before the next write, and a write that may be undone, and isn't read, needs no
+    place."""
+    read = {value for _, _, f, value in those if f == "read"}
+    needed = (it for it in those if it[1] != NEVER or it[3] in read)
+    seen, ways = set(), [(frozenset(needed), None)]
     while ways:
         way = left, value = ways.pop()
         if way in seen:
             continue
         seen.add(way)
-        first = min((those[it][1] for it in left), default=NEVER)
-        if first == NEVER and all(those[it][2] == "write" for it in left):
+        if not left:
             return True
+        first = min(ended for _, ended, _, _ in left)
+        is_over = not any(f == "read" and its == value for _, _, f, its in left)
         for it in left:
-            began, _, f, its = those[it]
-            if began <= first and (f == "write" or its == value):
+            began, _, f, its = it
+            if began <= first and (is_over if f == "write" else its == value):
                 ways.append((left - {it}, its))
     return False
