@@ -1,6 +1,7 @@
 """Tries each hook on a calm cluster, and says which one is wrong."""
 import asyncio
 import math
+from collections import Counter
 from collections.abc import Iterable, Iterator, Mapping, Sequence
 from pathlib import Path
 from typing import TYPE_CHECKING
@@ -134,8 +135,8 @@ class HookCheck:
         """Looks at the hook that reads registers, and whether `write` overwrites them."""
         wrote_nothing("get", await self.clients.get_once(NEVER))
         (key,) = self.clients.registers
-        writes = self.run.history.writes.get(key, [])
-        if sum(it.type == "ok" for it in writes) < min(2, len(writes)):
+        writes = Counter(it.error for it in self.run.history.writes.get(key, []))
+        if writes["no"] > writes[None]:
             text = f"{CALM}, and `write` said no to a key that is there already"
             raise wrong(f"{text}: with a hook `get` it has to overwrite {key}")
         got = await self.clients.get_once(key)
