@@ -109,7 +109,7 @@ one_found written test reads rest chunk next seen so split apart (there, holds) 
 )
 
 -- nothing behind a list
-append_none : (xs : List Seen) → xs ++ [] ≡ xs
+pub append_none : (xs : List Seen) → xs ++ [] ≡ xs
 append_none [] = refl
 append_none (x ∷ xs) = ap (λ ys. x ∷ ys) (append_none xs)
 
@@ -127,10 +127,10 @@ pub record Passed (reads rest : List Seen) : Type 0 where
   pub whole : reads ≡ done ++ rest
   pub apart : (a b : Seen) → Contains done a → Contains rest b → same_process b a ≡ false
 
-pub passed_none : (reads : List Seen) → Passed reads reads
+abbrev pub passed_none : (reads : List Seen) → Passed reads reads
 passed_none reads = record { done = []; whole = refl; apart = λ a b at. absurd (omega (arith, at.1)) }
 
-pub passed_more : (reads rest chunk next : List Seen) → Passed reads rest → rest ≡ chunk ++ next → AreApart chunk next → Passed reads next
+abbrev pub passed_more : (reads rest chunk next : List Seen) → Passed reads rest → rest ≡ chunk ++ next → AreApart chunk next → Passed reads next
 passed_more reads rest chunk next so split apart = record {
   done = so.done ++ chunk;
   whole = so.whole ∙ ap (λ ys. so.done ++ ys) split ∙ sym (append_assoc so.done chunk next);
@@ -139,6 +139,16 @@ passed_more reads rest chunk next so split apart = record {
     | inr within ↦ (apart a b within here).1
   ];
 }
+
+-- what is asked of reads of one process is asked of its reads alone
+pub passed_alike : (written : Option Place) (reads rest chunk next : List Seen) → Passed reads rest → rest ≡ chunk ++ next → AreApart chunk next
+    → (seen : Seen) → Contains chunk seen → lacks_to_end (some_of reads) written seen ≡ lacks_to_end (some_of chunk) written seen
+passed_alike written reads rest chunk next so split apart seen there =
+    ap (λ (ys : List Seen). lacks_to_end (some_of ys) written seen) (so.whole ∙ ap (λ ys. so.done ++ ys) split)
+    ∙ lacks_within written so.done chunk next
+    (λ a b at here. so.apart a b at (subst (λ (ys : List Seen). Contains ys b) (sym split) (Contains-append_left chunk next b here)))
+    (λ a b at here. (apart a b at here).0)
+    seen there
 
 -- an answer that lacks the record to the end among the reads of its process does so among all
 pub lacks_among : (written : Option Place) (test : Test) (reads rest chunk next : List Seen) (seen : Seen) → Passed reads rest

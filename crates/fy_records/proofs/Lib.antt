@@ -11,3 +11,4 @@ pub mod Same
 pub mod JudgedLemmas
 pub mod Gone
 pub mod Fewer
+pub mod Lacking

@@ -1,6 +1,7 @@
 -- who tells a record, who lacks it and whose disk has it
 use Rattle.std.specs.Prelude.{◌≡◌, ℕ, ◌+◌, Bool, true, false, ◌&&◌, ◌==◌, List, Contains, Option, Some, None}
 use Rattle.std.specs.List.{list_any}
+use Rattle.std.specs.Option.{option_map_or}
 use Rattle.fy_history.specs.declared.history.Place.{Place}
 use Rattle.fy_history.specs.declared.history.Write.{Write}
 use Rattle.fy_records.specs.declared.disks.Found.{Found}
@@ -42,25 +43,42 @@ AreHolders h write nodes =
     (process : ℕ) → is_among nodes process
     ≡ list_any (λ line. has write.key write.value line.trace && (line.node == process)) h.disks
 
--- a place stands at this line
-abbrev pub is_at_line : (line : ℕ) → Option Place → Bool
-is_at_line line None = false
-is_at_line line (Some place) = place.line == line
+-- the line of an answer: where the read ended, or where it began, if no line says that it did
+abbrev pub answer_line : Seen → ℕ
+answer_line seen = option_map_or (λ (p : Place). p.line) seen.read.ended seen.read.began.line
 
 -- it is the process and the line of an answer
+abbrev pub is_answer : Lacker → Seen → Bool
+is_answer lacker seen =
+    (process_of seen == lacker.node + 1) && (answer_line seen == lacker.line)
+
+-- a process that counts as whole lacks the record to the end, as this answer shows
+abbrev pub is_missing_by : Reads → (written : Option Place) → Seen → Bool
+is_missing_by some written seen = lacks_to_end some written seen && seen.whole
+
+-- a process is among those that lack the record
+abbrev pub is_lacker : List Lacker → (process : ℕ) → Bool
+is_lacker lackers process = list_any (λ lacker. lacker.node == process) lackers
+
+-- the processes that count as whole and lack the record to the end, with the lines of the answers
+-- that show it
+pub record AreLackers (some : Reads) (written : Option Place) (lackers : List Lacker) : Type 0 where
+  pub each : (lacker : Lacker) → Contains lackers lacker
+      → some (λ seen. is_missing_by some written seen && is_answer lacker seen) ≡ true
+  pub all : (process : ℕ) → is_lacker lackers process
+      ≡ some (λ seen. is_missing_by some written seen && (process_of seen == process + 1))
+
+-- it is the process and the line of an answer, if there is one
 abbrev pub IsAnswer : Lacker → Option Seen → Type 0
 IsAnswer lacker None = ⊥
-IsAnswer lacker (Some seen) =
-    ((process_of seen == lacker.node + 1) && is_at_line lacker.line seen.read.ended) ≡ true
+IsAnswer lacker (Some seen) = is_answer lacker seen ≡ true
 
--- this answer of a process that counts as whole shows that it lacks the record to the end
-abbrev pub is_lacking_answer : Reads → (written : Option Place) → Lacker → Seen → Bool
-is_lacking_answer some written lacker seen =
-    (lacks_to_end some written seen && seen.whole)
-    && ((process_of seen == lacker.node + 1) && is_at_line lacker.line seen.read.ended)
+-- this process gave the answer, if there is one
+abbrev pub is_answer_of : (process : ℕ) → Option Seen → Bool
+is_answer_of process None = false
+is_answer_of process (Some seen) = process_of seen == process + 1
 
--- each of these processes lacks the record to the end, as an answer at this line shows
-abbrev pub AreLackers : Lines → Write → List Lacker → Type 0
-AreLackers h write lackers =
-    (lacker : Lacker) → Contains lackers lacker
-    → some_read h write.key (is_lacking_answer (some_read h write.key) h.written lacker) ≡ true
+-- it is this process
+abbrev pub is_lacker_at : (process : ℕ) → Option Lacker → Bool
+is_lacker_at process None = false
+is_lacker_at process (Some lacker) = lacker.node == process

@@ -1,11 +1,11 @@
 //! Who tells a record, who lacks it and whose disk has it.
 ghost use Rattle.std.specs.Prelude.{◌≡◌, ℕ, ◌+◌, ◌==◌, ◌&&◌, ◌||◌, IfOk, OnOk, IfSome, Contains, IsTrue, ◌⊎◌, true};
 ghost use Rattle.std.specs.List.{list_any};
-ghost use Rattle.fy_records.specs.Evidence.{is_among, is_node, is_told_by, is_held_by, is_at_line, is_lacking_answer, IsAnswer, AreTellers, AreHolders, AreLackers};
+ghost use Rattle.fy_records.specs.Evidence.{is_among, is_node, is_told_by, is_held_by, answer_line, is_answer, is_answer_of, is_lacker, is_lacker_at, IsAnswer, AreTellers, AreHolders, AreLackers};
 ghost use Rattle.fy_records.specs.Found.{some_of, AreGathered};
 ghost use Rattle.fy_records.specs.declared.evidence.Lacker.{Lacker};
 ghost use Rattle.fy_records.specs.Indexed.{IsInOrder, IsIndexOf};
-ghost use Rattle.fy_records.specs.Lines.{Lines};
+ghost use Rattle.fy_records.specs.Lines.{Lines, some_read};
 ghost use Rattle.fy_records.specs.Reads.{process_of};
 
 use crate::Index;
@@ -130,27 +130,35 @@ pub fn disks_with(alloc: Global, index: &Index, write: &Write) -> Result<Vec<u16
     Ok(nodes)
 }
 
+/// The line of an answer.
+fn answer_line(seen: &Seen) -> u32
+    ensures { result ≡ answer_line seen.now }
+{
+    match seen.read.ended {
+        Some(ended) => ended.line,
+        None => seen.read.began.line,
+    }
+}
+
 /// The process and the line of an answer.
 fn lacker_of(seen: &Seen) -> Option<Lacker>
-    ensures { IfSome result (λ lacker. IsTrue ((process_of seen.now == lacker.node + 1)
-        && is_at_line lacker.line seen.now.read.ended)) }
+    ensures answer { IfSome result (λ lacker. is_answer lacker seen.now ≡ true) }
+    ensures process { (process : ℕ) → is_lacker_at process result
+        ≡ (process_of seen.now == process + 1) }
 {
+    let line = answer_line(seen);
     match seen.read.node {
-        Some(node) => match seen.read.ended {
-            Some(ended) => Some(Lacker {
-                node,
-                line: ended.line,
-            }),
-            None => None,
-        },
+        Some(node) => Some(Lacker { node, line }),
         None => None,
     }
 }
 
 /// Adds the process and the line of an answer, if there is one.
 fn add_lacker(lackers: &mut Vec<Lacker>, seen: Option<Seen>) -> Result<(), AllocError>
-    ensures { OnOk result ((lacker : Lacker) → Contains lackers.new.items lacker
+    ensures each { OnOk result ((lacker : Lacker) → Contains lackers.new.items lacker
         → Contains lackers.old.items lacker ⊎ IsAnswer lacker seen) }
+    ensures all { OnOk result ((process : ℕ) → is_lacker lackers.new.items process
+        ≡ (is_lacker lackers.old.items process || is_answer_of process seen)) }
 {
     let Some(seen) = seen else {
         return Ok(());
@@ -168,8 +176,7 @@ fn lackers_among(
     written: Option<Place>,
 ) -> Result<Vec<Lacker>, AllocError>
     requires { AreGathered reads.now }
-    ensures { IfOk result (λ lackers. (lacker : Lacker) → Contains lackers.items lacker
-        → some_of reads.now (is_lacking_answer (some_of reads.now) written lacker) ≡ true) }
+    ensures { IfOk result (λ lackers. AreLackers (some_of reads.now) written lackers.items) }
 {
     let mut lackers = Vec::new(alloc);
     let mut rest = reads;
@@ -189,7 +196,7 @@ fn lackers_among(
 pub fn lackers(alloc: Global, index: &Index, write: &Write) -> Result<Vec<Lacker>, AllocError>
     requires { IsInOrder index.now }
     ensures { IfOk result (λ lackers. (h : Lines) → IsIndexOf h index.now
-        → AreLackers h write.now lackers.items) }
+        → AreLackers (some_read h write.now.key) h.written lackers.items) }
 {
     let lackers = lackers_among(alloc, index.reads_of(write.key), index.written())?;
     Ok(lackers)
