@@ -10,7 +10,8 @@ Struck, barred, refused and replied is what the replies say. A record is acknowl
 delivery of an acknowledgement was answered so. A holder of a record has synced it and isn't
 destroyed. A record outlived the loss of a holder where one order or more destroyed holders of it
 once it was acknowledged, and a holder was left each time; of all but one where one was left. What
-the disks hold is read off the entries; nothing is asked of the program.
+the disks hold is read off the entries; nothing is asked of the program. The audit of a nemesis has
+no records: what became of those that it wrote says its `verdict.jsonl` beside the audit.
 """
 from __future__ import annotations
 
@@ -65,6 +66,9 @@ ROWS = (
     "records acknowledged",
     "outlived the loss of a holder",
     "outlived the loss of all holders but one",
+)
+OF_STORES = tuple(
+    f"records {verdict}" for verdict in "kept lost missing stale unreadable wrong".split()
 )
 Reply = dict[str, Any]
 
@@ -204,6 +208,18 @@ def counted(processes: list[dict[str, str]], path: str) -> Counter[str]:
     counts["records acknowledged"] = len(disks.acknowledged)
     counts["outlived the loss of a holder"] = len(disks.lost_one)
     counts["outlived the loss of all holders but one"] = len(disks.last_one)
+    counts.update(judged(Path(path).parent))
+    return counts
+
+
+def judged(folder: Path) -> Counter[str]:
+    """How many records of a store had which verdict, if there was one."""
+    path = folder / "verdict.jsonl"
+    if not path.is_file():
+        return Counter()
+    told = json.loads(path.read_text().splitlines()[-1])
+    counts = Counter({row: told[row.removeprefix("records ")] for row in OF_STORES})
+    counts["records acknowledged"] = told["acknowledged"]
     return counts
 
 
@@ -235,6 +251,8 @@ def table(ran: str, wanted: str) -> int:
         counts.update(json.loads(held))
     rows = [(f"seeds done, of {wanted}", str(seeds)), ("bad", str(bad))]
     rows += [(row, str(counts[row])) for row in ROWS]
+    if any(counts[row] for row in OF_STORES):
+        rows += [(row, str(counts[row])) for row in OF_STORES]
     rows += [
         (f"seconds in {ran}, each alone", f"{sum(run for run, _ in times) / 1e6:.1f}"),
         ("seconds in check, each alone", f"{sum(check for _, check in times) / 1e6:.1f}"),

@@ -23,6 +23,7 @@ from nemesis.hook_log import HookLog
 from nemesis.main import rising
 from nemesis.store import Store
 from nemesis.traces import traces
+from nemesis.verdicts import Judged, Linear
 
 KEY, VALUE = "r/000000001", "a"
 
@@ -83,22 +84,48 @@ class Traces(unittest.TestCase):
 
 
 class Summaries(unittest.TestCase):
-    def status(self, is_fresh=False, is_unread=False, **counts):
-        none = dict.fromkeys(("kept", "lost", "stale", "unreadable", "wrong"), 0)
-        return summary.status(none | counts, is_fresh, is_unread)
+    def status(self, is_fresh=False, is_unread=False, keys=0, **counts):
+        linear = Linear([{"key": KEY}] * keys, {"keys": 9})
+        return summary.status(Judged(counts=counts), linear, is_fresh, is_unread)
 
     def test_the_worst_that_was_found_is_the_status(self):
         self.assertEqual(self.status(kept=3), 0)
         self.assertEqual(self.status(kept=3, stale=1), 0)
         self.assertEqual(self.status(kept=3, stale=1, is_fresh=True), 7)
         self.assertEqual(self.status(stale=1, unreadable=1, is_fresh=True), 6)
-        self.assertEqual(self.status(unreadable=1, wrong=1), 8)
+        self.assertEqual(self.status(unreadable=1, keys=1), 10)
+        self.assertEqual(self.status(missing=1, keys=1), 9)
+        self.assertEqual(self.status(missing=1, wrong=1), 8)
+        self.assertEqual(self.status(missing=1, unwritten=1), 8)
         self.assertEqual(self.status(unreadable=1, wrong=1, lost=1), 1)
 
     def test_a_read_that_hangs_is_a_fault_of_the_hook_unless_all_is_settled(self):
         self.assertEqual(self.status(unreadable=1, is_unread=True), 3)
         self.assertEqual(self.status(kept=1, is_unread=True), 0)
         self.assertEqual(self.status(lost=1, unreadable=1, is_unread=True), 1)
+
+    def test_what_else_was_counted_is_told_if_it_was(self):
+        counts = {"acknowledged": 3, "kept": 1, "stale": 2, "twice": 0, "gone": 4}
+        second = 1_000_000_000
+        found = Judged(counts=counts | {"staleness": [second, second, second, second, 2 * second]})
+        self.assertEqual(
+            summary.closing(found),
+            "3 acknowledged: 1 kept, 0 lost, 0 missing, 2 stale, 0 unreadable, 0 wrong",
+        )
+        gone, stale = summary.besides(found)
+        self.assertEqual(gone, "4 records that weren't acknowledged were read, and are lost")
+        self.assertTrue(stale.startswith("stale for 1.000, 1.000, 1.000, 1.000, 2.000 s"))
+        self.assertEqual([*summary.besides(Judged(counts={"kept": 1, "staleness": None}))], [])
+
+    def test_keys_that_are_not_linearizable_are_named(self):
+        counts = {"keys": 7, "linearizable": 5, "not": 2, "operations": 30}
+        lines = [{"key": "r/1"}, {"key": "r/2"}]
+        text = "2 of 7 keys aren't linearizable, in 30 operations"
+        self.assertEqual(Linear(lines, counts).told(2), [f"{text}: r/1, r/2, in linear.jsonl"])
+        self.assertEqual(Linear(lines, counts).told(1), [f"{text}: r/1 .., in linear.jsonl"])
+        text = "0 of 7 keys aren't linearizable, in 30 operations"
+        self.assertEqual(Linear([], counts).told(1), [text])
+        self.assertEqual(Linear().told(1), [])
 
     def test_a_run_says_why_it_tested_little(self):
         def told(*amount, is_control=False, **more):

@@ -1,8 +1,8 @@
 """What becomes of each record, and whose fault it is said to be: verdicts, cases and their words.
 
-Runs of stores for each verdict, in virtual time, and small histories that are written out by hand.
-Expected are the definitions of docs/NEMESIS.md. All that a test says of a verdict's words stands in
-this file.
+Runs of stores for each verdict, in virtual time, and verdicts that are written out by hand. Expected
+are the definitions of docs/NEMESIS.md. All that a test says of a verdict's words stands in this
+file.
 """
 
 import asyncio
@@ -10,10 +10,9 @@ import unittest
 
 from faultyard.ledger import Heal, Loss, Record
 from lab import Case, Ran, ran
-from nemesis.evidence import Course
 from nemesis.evidence import Case as Evidence
+from nemesis.evidence import Course, Left, unwritten
 from nemesis.history import Operation
-from nemesis.verdicts import Left, Verdict, judged, wrong
 from toy import Call, Denies, Drops, DropsWhileEmpty, Forgetful, Hole, Invents, Lags, Old
 from toy import Partial, Quorum, Refuses, Shy, Toy, Twice, Unsynced, Wrong, ends, is_nth
 
@@ -34,7 +33,8 @@ class Stores(Case):
         it = self.ran(*self.CALM, *words, toy=toy, status=status)
         self.assertGreater(it.acked, 30)
         if counts:
-            none = dict.fromkeys(("kept", "lost", "stale", "unreadable", "wrong"), 0)
+            names = ("kept", "lost", "missing", "stale", "unreadable", "wrong")
+            none = dict.fromkeys(names, 0)
             self.assertEqual(it.counts, none | counts)
         return it, it.lines("records.jsonl")
 
@@ -69,7 +69,7 @@ class Stores(Case):
         self.assertGreater(it.counts["stale"], 0)
         self.assertEqual(it.counts["kept"] + it.counts["stale"], it.acked)
         self.assertEqual({case["verdict"] for case in cases}, {"stale"})
-        self.assertTrue(all(0 < case["stale"]["seconds"] <= 0.5 for case in cases))
+        self.assertTrue(all(0 <= case["stale"]["seconds"] <= 0.5 for case in cases))
         text = r"stale: \d+ records, the longest r/\d+: p\d lacked it after 0.\d+ s"
         self.assertRegex(it.told, f"{text}, though the hooks promise fresh\n")
         it, _ = self.judged(Toy(0, Lags(0.5), listed=READERS), 0, *self.given())
@@ -94,22 +94,23 @@ class Stores(Case):
         for *_, answered, _, asked in (line[: line.index("records")] for line in found):
             self.assertTrue(10 < int(answered) < int(asked) == it.acked)
 
-    def test_lost_where_one_process_alone_lacks_it(self):
+    def test_missing_where_one_process_alone_lacks_it(self):
         toy = Toy(0, Hole(1, 7), listed=READERS)
-        it, cases = self.judged(toy, 1, *self.given())
-        self.assertEqual((it.counts["wrong"], it.counts["unreadable"]), (0, 0))
+        it, cases = self.judged(toy, 9, *self.given())
+        self.assertEqual(it.counts["missing"], len(self.nth(toy, 7)))
+        self.assertEqual(it.counts["kept"] + it.counts["missing"], len(toy.acked))
         self.assertEqual(sorted(case["key"] for case in cases), self.nth(toy, 7))
-        self.assertEqual({case["verdict"] for case in cases}, {"lost"})
+        self.assertEqual({case["verdict"] for case in cases}, {"missing"})
         for case in cases:
             self.assertIn("check", case["lacks"]["p1"])
             self.assertIn("check", case["holds"]["p0"])
         self.assertIn("p1 lacks it by `check`", it.told)
-        self.assertIn("and p0 p2 and `read` has it: the store lost it there", it.told)
+        self.assertIn("and p0 p2 has it: the store lost it there", it.told)
 
-    def test_lost_where_a_process_serves_old_answers_for_ever(self):
+    def test_missing_where_a_process_serves_old_answers_for_ever(self):
         """Its disk has all."""
         toy = Toy(0, Old(2, 1.5), listed=READERS)
-        it, cases = self.judged(toy, 1, *self.given(), "--seconds", 3)
+        it, cases = self.judged(toy, 9, *self.given(), "--seconds", 3)
         late = {
             line["value"][0] for line in it.operations("read", "ok") if line["value"][1] is None
         }
@@ -124,7 +125,7 @@ class Stores(Case):
         toy = Toy(0, Drops(1), listed=READERS)
         it, cases = self.judged(toy, 1, *self.given())
         self.assertEqual(it.counts["lost"], len(toy.acked))
-        known = "p0 p1 p2 could hold it and were never destroyed since, and none has it"
+        known = "one of p0 p1 p2 held it and was never destroyed since, and none has it"
         self.assertEqual({case["fault"] for case in cases}, {f"{known}: the store lost it"})
         lacks = {name: ["check", "salvage"] for name in ("p0", "p1", "p2")}
         self.assertEqual(cases[0]["lacks"], lacks)
@@ -143,7 +144,7 @@ class Stores(Case):
         self.assertGreater(len(early), len(cases) - 4)  # three may be answered as it is healed
         for case in early:
             self.assertEqual(case["able"], ["p1", "p2"])
-            self.assertTrue(case["fault"].startswith("p1 p2 could hold it"), case["fault"])
+            self.assertTrue(case["fault"].startswith("one of p1 p2 held it"), case["fault"])
 
     def test_unreadable_and_what_the_disks_settle(self):
         """Two of three are killed for good beyond the guard, so that `read` has no quorum."""
@@ -220,13 +221,18 @@ class Stores(Case):
         # the last of them may have been sent, and not acknowledged in time
         self.assertLessEqual(found, {key for key in sent if is_nth(key, 9)})
         for case in cases:
-            self.assertEqual((case["verdict"], case["told"]), ("wrong", case["value"][::-1]))
+            if case["verdict"] == "wrong":
+                self.assertEqual(case["told"], case["value"][::-1])
+        verdicts = [case["verdict"] for case in cases]
+        self.assertEqual(verdicts.count("wrong"), it.counts["wrong"])
+        self.assertLessEqual({*verdicts}, {"wrong", "unwritten"})
         self.assertEqual(it.counts["lost"], 0)
 
     def test_a_record_that_nobody_wrote(self):
         toy = Toy(0, Invents(), listed=READERS)
         it, cases = self.judged(toy, 8, *self.given())
-        self.assertEqual((it.counts["kept"], it.counts["wrong"]), (len(toy.acked), 1))
+        self.assertEqual((it.counts["kept"], it.counts["wrong"]), (len(toy.acked), 0))
+        self.assertIn("\n1 keys were read with a value that nobody wrote there\n", it.told)
         self.assertEqual(cases[0]["fault"], "`read` told abc, and nobody wrote that key")
 
     def test_a_key_that_is_told_twice_counts_by_its_last_value(self):
@@ -235,7 +241,8 @@ class Stores(Case):
         self.assertEqual(it.counts["kept"], len(toy.acked))
         toy = Toy(0, Twice(5, "f" * 16), listed=READERS)
         it, cases = self.judged(toy, 8, *self.given())
-        self.assertEqual(it.counts["wrong"], len(cases))
+        wrong = [case for case in cases if case["verdict"] == "wrong"]
+        self.assertEqual(it.counts["wrong"], len(wrong))
         self.assertLessEqual({*self.nth(toy, 5)}, {case["key"] for case in cases})
 
     def test_a_read_that_lies_is_not_blamed_on_the_store_alone(self):
@@ -247,8 +254,8 @@ class Stores(Case):
 
     def test_a_check_that_lies_is_not_blamed_on_the_store_alone(self):
         toy = Toy(0, Denies(2), listed=READERS)
-        it, cases = self.judged(toy, 1, *self.given())
-        self.assertEqual(it.counts["lost"], len(toy.acked))
+        it, cases = self.judged(toy, 9, *self.given())
+        self.assertEqual(it.counts["missing"], len(toy.acked))
         end = "the store lost it there, or `check` is wrong"
         for case in cases:
             self.assertIn("check", case["lacks"]["p2"])
@@ -260,7 +267,9 @@ class Stores(Case):
             if it.status:
                 break
         lost = it.lines("lost.jsonl")
-        self.assertIn(f" {len(lost)} lost, 0 stale, 0 unreadable, 0 wrong; audit legal", it.told)
+        self.assertIn(
+            f" {len(lost)} lost, 0 missing, 0 stale, 0 unreadable, 0 wrong; audit legal", it.told
+        )
         when = f"acknowledged at {lost[0]['t']:.2f} s before entry {lost[0]['entry']}: "
         self.assertRegex(it.told, f"lost: {lost[0]['key']}( and \\d+ more)?, {when}")
 
@@ -280,7 +289,7 @@ class Stores(Case):
         *first, last = (str(event["entry"]) for event in healed)
         blamed = f"{names} were healed by entries {', '.join(first)} and {last}: `whole` was wrong"
         self.assertIn(f"lost: {lost[0]['key']} and ", it.told)
-        self.assertIn(f" before entry 0: of those who could hold it {blamed}", it.told)
+        self.assertIn(f" before entry 0: {blamed}", it.told)
 
     def test_read_hangs_or_fails(self):
         """No record has a verdict, and nobody is blamed."""
@@ -309,85 +318,41 @@ def read(value, began, key=KEY, node=0):
     return Operation(1, "read", key, value, began, began + 1, "ok", node=node)
 
 
-class ByHand(unittest.TestCase):
-    def assert_verdict(self, expected, left, reads=()):
-        (found,) = judged([KEY], {KEY: write()}, reads, left)
-        self.assertEqual(found.verdict, expected)
-        return found
-
-    def test_kept_is_what_a_read_at_the_end_tells(self):
-        self.assert_verdict(Verdict.KEPT, Left({KEY: VALUE}))
-        self.assert_verdict(Verdict.KEPT, Left(None, {2: {KEY: VALUE}}))
-
-    def test_lost_is_what_an_answered_read_at_the_end_lacks(self):
-        self.assert_verdict(Verdict.LOST, Left({}))
-        self.assert_verdict(Verdict.LOST, Left({KEY: VALUE}, {0: {KEY: VALUE}, 2: {KEY: None}}))
-        self.assert_verdict(Verdict.LOST, Left({}, {0: {KEY: VALUE}}, {0: {KEY: VALUE}}))
-
-    def test_unreadable_is_what_nobody_answers_for(self):
-        self.assert_verdict(Verdict.UNREADABLE, Left(None))
-        self.assert_verdict(Verdict.UNREADABLE, Left(None, {2: {}}))
-        self.assert_verdict(Verdict.UNREADABLE, Left(None, disks={0: {}, 1: None}))
-
-    def test_disks_settle_what_nobody_answers_for(self):
-        self.assert_verdict(Verdict.KEPT, Left(None, disks={0: None, 1: {KEY: VALUE}}))
-        self.assert_verdict(Verdict.LOST, Left(None, disks={0: {}, 1: {"r/000000002": "b"}}))
-        self.assert_verdict(Verdict.LOST, Left(None, disks={0: {KEY: "torn"}}))
-
-    def test_files_settle_what_no_disk_tells(self):
-        """Lost is what no disk tells and of which nothing stands in the files of those that don't
-        tell all."""
-        none, other = set(), {"r/000000002"}
-        for disk in (None, {"?": "?"}, {"?": "?", KEY: "torn"}):
-            with self.subTest(disk):
-                disks = {0: disk, 1: {}}
-                self.assert_verdict(Verdict.UNREADABLE, Left(None, disks=disks))
-                self.assert_verdict(Verdict.UNREADABLE, Left(None, disks=disks, traces={0: {KEY}}))
-                self.assert_verdict(
-                    Verdict.UNREADABLE, Left(None, disks={2: None} | disks, traces={0: none})
-                )
-                self.assert_verdict(Verdict.LOST, Left(None, disks=disks, traces={0: other}))
-        told = {0: {"?": "?", KEY: VALUE}, 1: None}
-        self.assert_verdict(Verdict.KEPT, Left(None, disks=told, traces={0: none, 1: none}))
-        self.assert_verdict(Verdict.KEPT, Left({KEY: VALUE}, disks={0: None}, traces={0: none}))
-
-    def test_stale_is_lacked_after_its_acknowledgement_and_found_later(self):
-        found = self.assert_verdict(
-            Verdict.STALE, Left({KEY: VALUE}), [read(None, 12), read(None, 30), read(VALUE, 40)]
-        )
-        self.assertEqual(found.lacking.began, 30)
-        self.assert_verdict(Verdict.LOST, Left({}), [read(None, 30)])
-        self.assert_verdict(Verdict.UNREADABLE, Left(None), [read(None, 30)])
-
-    def test_a_read_that_began_before_the_acknowledgement_may_lack_it(self):
-        self.assert_verdict(Verdict.KEPT, Left({KEY: VALUE}), [read(None, 5), read(None, 10)])
-
-    def test_wrong_is_another_value_than_was_written(self):
-        self.assert_verdict(Verdict.WRONG, Left({KEY: "b"}), [read("b", 30)])
-        self.assert_verdict(Verdict.WRONG, Left({KEY: VALUE}), [read("b", 5)])
-
-    def test_wrong_are_keys_and_values_that_nobody_wrote(self):
-        writes = {KEY: write(), "r/000000002": write("r/000000002", "b", type="info")}
+class Unwritten(unittest.TestCase):
+    def test_unwritten_are_keys_and_values_that_nobody_wrote(self):
+        writes = {KEY: [write()], "r/000000002": [write("r/000000002", "b", type="info")]}
         right = [
             read(VALUE, 1),
             read(None, 2),
             read("b", 3, "r/000000002"),
             read("yes", 4, "ready"),
         ]
-        self.assertEqual(wrong(writes, right), [])
+        self.assertEqual(unwritten(set(), writes, right), [])
         faulty = [
             read("b", 5),
             read("x", 6, "r/000000002"),
             read("y", 7, "r/9"),
             read("z", 8, "r/9"),
         ]
-        self.assertEqual(wrong(writes, right + faulty), faulty[:3])
+        self.assertEqual(unwritten(set(), writes, right + faulty), faulty[:3])
+        self.assertEqual(unwritten({KEY}, writes, right + faulty), faulty[1:3])
 
 
 class Cases(unittest.TestCase):
     """Five processes, and a record that was acknowledged at second 5, before entry 6."""
 
-    def case(self, left, losses=(), heals=(), orders=(), able=range(5), reads=(), is_fresh=False):
+    def case(
+        self,
+        verdict,
+        left=Left(),
+        losses=(),
+        heals=(),
+        orders=(),
+        able=range(5),
+        is_fresh=False,
+        lines=(),
+        **judged,
+    ):
         course = Course(
             [f"k{number}" for number in range(5)],
             orders,
@@ -395,129 +360,111 @@ class Cases(unittest.TestCase):
             [Heal(process, t, entry) for process, t, entry in heals],
             left,
             is_fresh,
+            [{"node": node} for node in lines],
         )
-        acked = write(began=4_900_000_000, ended=5_000_000_000)
-        (judged_record,) = judged([KEY], {KEY: acked}, reads, left)
-        return Evidence(judged_record, Record(VALUE, 5.0, 6, tuple(able)), course)
+        its = {"acked": 9, "at": 5_000_000_000, "entry": 6, "fault": None, "key": KEY}
+        its |= {"value": VALUE, "verdict": verdict} | judged
+        return Evidence(its, 4_900_000_000, Record(VALUE, 5.0, 6, tuple(able)), course)
+
+    def lost(self, fault, *more, destroyed=(), disks=(), tells=(), read=20, **others):
+        evidence = {"destroyed": [*destroyed], "disks": [*disks], "tells": [*tells]}
+        return self.case("lost", *more, fault=fault, read=read, **evidence, **others)
 
     def disks(self, *having, unknown=()):
         return {n: None if n in unknown else {KEY: VALUE} if n in having else {} for n in range(5)}
 
-    def test_one_who_was_never_destroyed_holds_it(self):
-        left = Left({}, disks=self.disks(2, 4))
-        case = self.case(left, losses=[(2, 6.0, 18), (3, 7.0, 20)])
-        self.assertEqual(case.fault(), "k4 holds it and was never destroyed: the store lost it")
+    def test_the_store_lost_what_somebody_held_who_was_never_destroyed(self):
+        case = self.lost("store", losses=[(2, 6.0, 18), (3, 7.0, 20)], destroyed=[2, 3])
+        fault = "one of k0 k1 k4 held it and was never destroyed since: the store lost it"
+        self.assertEqual(case.fault(), fault)
         line = case.line()
         self.assertEqual((line["sent"], line["acked"], line["entry"]), (4.9, 5.0, 6))
         self.assertEqual(line["never_destroyed"], ["k0", "k1", "k4"])
         self.assertEqual(line["destroyed"], {"k2": [18], "k3": [20]})
-        self.assertEqual(line["holds"], {"k2": ["salvage"], "k4": ["salvage"]})
-        self.assertEqual(sorted(line["lacks"]), ["k0", "k1", "k3"])
+        self.assertEqual((line["holds"], line["lacks"]), ({}, {}))
 
     def test_none_of_those_who_were_never_destroyed_has_it(self):
-        case = self.case(Left({}, disks=self.disks()), losses=[(2, 6.0, 18), (3, 7.0, 20)])
-        fault = (
-            "k0 k1 k4 could hold it and were never destroyed since, and none has it:"
-            " the store lost it"
-        )
-        self.assertEqual(case.fault(), fault)
-
-    def test_what_was_destroyed_before_is_not_blamed(self):
-        case = self.case(Left({}, disks=self.disks()), losses=[(2, 3.0, 4)], able=(0, 1, 3, 4))
-        self.assertEqual((case.destroyed, case.never), ({}, {0, 1, 3, 4}))
-        self.assertNotIn("4", case.fault().replace("k4", ""))
-
-    def test_unknown_disks_are_said_to_be_unknown(self):
-        case = self.case(Left({}), losses=[(2, 6.0, 18), (3, 7.0, 20)])
-        fault = (
-            "unknown: k0 k1 k4 could hold it and were never destroyed since, "
-            "and whether the disk of k0 k1 k4 has it is unknown: the store lost it, or `read` lags"
-        )
-        self.assertEqual(case.fault(), fault)
-        case = self.case(Left(None, disks=self.disks(unknown=[3])))
-        self.assertEqual(case.verdict, Verdict.UNREADABLE)
+        case = self.lost("store", Left(disks=self.disks()), destroyed=[2, 3])
+        text = "one of k0 k1 k4 held it and was never destroyed since, and none has it"
+        self.assertEqual(case.fault(), f"{text}: the store lost it")
+        self.assertEqual(case.line()["lacks"], {f"k{n}": ["salvage"] for n in range(5)})
+        alone = self.lost("store", Left(disks=self.disks(unknown=[4])), destroyed=range(4))
         self.assertEqual(
-            case.fault(),
-            "unknown: no read was answered, and whether the disk of k3 has it is unknown",
+            alone.fault(), "k4 held it and was never destroyed since: the store lost it"
         )
-
-    def test_files_are_evidence_where_a_disk_does_not_tell_all(self):
-        disks = self.disks(unknown=[3]) | {4: {"?": "?"}}
-        case = self.case(Left(None, disks=disks, traces={3: set(), 4: set()}))
-        self.assertEqual(case.verdict, Verdict.LOST)
-        self.assertEqual(
-            case.line()["lacks"], {f"k{n}": ["salvage" if n < 3 else "files"] for n in range(5)}
-        )
-        self.assertTrue(case.fault().endswith("and none has it: the store lost it"), case.fault())
-        case = self.case(Left(None, disks=disks, traces={3: set(), 4: {KEY}}))
-        self.assertEqual(
-            case.fault(),
-            "unknown: no read was answered, and whether the disk of k4 has it is unknown",
-        )
-
-    def test_all_were_destroyed_as_the_guard_allowed(self):
-        losses = [(0, 6.0, 7), (1, 6.0, 7), (2, 6.0, 7), (3, 7.0, 20), (4, 7.0, 20)]
-        case = self.case(Left({}, disks=self.disks()), losses)
-        fault = "every holder was destroyed by entries 7 and 20, which the guard allowed: tell us"
-        self.assertEqual(case.fault(), fault)
-
-    def test_beyond_the_guard(self):
-        order = {"entry": 7, "does": "RebootAndDelete", "beyond": True, "t": 6.0, "targets": [2, 3]}
-        mild = {"entry": 3, "does": "Reboot", "beyond": True, "t": 2.0, "targets": [2]}
-        losses = [(2, 6.0, 7), (3, 6.0, 7)]
-        case = self.case(Left({}, disks=self.disks()), losses, orders=[mild, order])
-        self.assertEqual(
-            case.fault(), "beyond the guard since entry 7, which destroyed k2 k3 who could hold it"
-        )
-        case = self.case(Left({}, disks=self.disks()), losses, orders=[order], able=(0, 3))
-        self.assertEqual(
-            case.fault(), "beyond the guard since entry 7, which destroyed k3 who could hold it"
-        )
-        case = self.case(Left({}, disks=self.disks(4)), losses, orders=[order])
-        self.assertTrue(case.fault().endswith("; k4 has it"))
-        case = self.case(Left({}, disks=self.disks()), orders=[order | {"entry": 2, "t": 1.0}])
-        self.assertEqual(case.fault(), "beyond the guard since entry 2")
-        self.assertEqual(case.line()["struck"], [])
 
     def test_one_was_healed_and_lacks_it(self):
-        losses, heals = [(0, 6.0, 7), (1, 8.0, 11)], [(0, 7.0, 9)]
-        case = self.case(Left({}, disks=self.disks()), losses, heals, able=(0, 1))
-        self.assertEqual(case.never, set())
-        fault = (
-            "of those who could hold it k0 was healed by entry 9: `whole` was wrong,"
-            " or the store lost it"
-        )
+        heals = {"store_or_whole": [[0, 9], [1, 11], [0, 14]]}
+        fault = "k0 k1 were healed by entries 9, 11 and 14: `whole` was wrong, or the store lost it"
+        self.assertEqual(self.lost(heals).fault(), fault)
+        fault = "k3 was healed by entry 9: `whole` was wrong, or the store lost it"
+        self.assertEqual(self.lost({"store_or_whole": [[3, 9]]}).fault(), fault)
+
+    def test_beyond_the_guard(self):
+        losses, fault = [(2, 6.0, 7), (3, 6.0, 7)], {"beyond": 7}
+        text = "beyond the guard since entry 7, which destroyed"
+        case = self.lost(fault, losses=losses)
+        self.assertEqual(case.fault(), f"{text} k2 k3 who could hold it")
+        case = self.lost(fault, losses=losses, able=(0, 3))
+        self.assertEqual(case.fault(), f"{text} k3 who could hold it")
+        case = self.lost(fault, Left(disks=self.disks(4)), losses=losses)
+        self.assertTrue(case.fault().endswith("; k4 has it"))
+        self.assertEqual(self.lost({"beyond": 2}).fault(), "beyond the guard since entry 2")
+
+    def test_nobody_is_blamed_where_some_have_it(self):
+        case = self.lost("nobody", tells=[0, 2], disks=[0])
+        fault = "`read` lacks it, and k0 k2 told it by `check`: `read` or the store is wrong"
         self.assertEqual(case.fault(), fault)
+        case = self.lost("nobody", disks=[4])
+        fault = "`read` lacks it, and the disk of k4 has it: does the store serve it?"
+        self.assertEqual(case.fault(), fault)
+        left = Left({1: {KEY: None}, 2: {KEY: VALUE}})
+        case = self.lost("nobody", left, read=None, tells=[2])
+        fault = "k1 lacks it by `check`, and `read` had no answer; k2 told it"
+        self.assertEqual(case.fault(), fault)
+        case = self.lost("nobody", Left({1: {KEY: None}}), read=None)
+        self.assertEqual(case.fault(), "k1 lacks it by `check`, and `read` had no answer")
 
-    def test_a_heal_does_not_matter_where_all_were_down_at_once(self):
-        losses, heals = [(0, 6.0, 7), (1, 6.5, 8)], [(0, 7.0, 9)]
-        case = self.case(Left({}, disks=self.disks()), losses, heals)
-        self.assertTrue(case.fault().endswith("and none has it: the store lost it"), case.fault())
-        later = self.case(Left({}, disks=self.disks()), [(0, 6.0, 7), (1, 8.0, 11)], heals)
-        self.assertTrue(
-            later.fault().endswith("`whole` was wrong, or the store lost it"), later.fault()
-        )
+    def test_a_process_alone_lacks_it(self):
+        left = Left({0: {KEY: VALUE}, 2: {KEY: None}}, self.disks(0, 2))
+        case = self.case("missing", left, lacks=[[2, 20]], disks=[0, 2])
+        text = "k2 lacks it by `check`, though the disk of k2 has it, and k0 has it"
+        self.assertEqual(case.fault(), f"{text}: the store lost it there, or `check` is wrong")
+        line = case.line()
+        self.assertEqual(line["holds"], {"k0": ["check", "salvage"], "k2": ["salvage"]})
+        self.assertEqual(line["lacks"]["k2"], ["check"])
+        heals = {"losses": [(2, 6.0, 7)], "heals": [(2, 7.0, 9)]}
+        case = self.case("missing", Left(), lacks=[[2, 20]], disks=[], **heals)
+        text = "k2 lacks it by `check`; k2 was healed by entry 9"
+        self.assertEqual(case.fault(), f"{text}: `whole` was wrong, or the store lost it")
 
-    def test_a_process_lacks_it_and_read_has_it(self):
-        left = Left({KEY: VALUE}, {0: {KEY: VALUE}, 2: {KEY: None}})
+    def test_unknown_disks_are_said_to_be_unknown(self):
+        text = "unknown: no read told it at the end, and whether the disk of"
+        case = self.case("unreadable", Left(disks=self.disks(unknown=[3])))
+        self.assertEqual(case.fault(), f"{text} k3 has it is unknown")
+        left = Left({}, self.disks(unknown=[3]) | {4: {"?": "?"}}, {3: set(), 4: {KEY}})
+        case = self.case("unreadable", left)
+        self.assertEqual(case.fault(), f"{text} k4 has it is unknown")
+        lacks = {f"k{n}": ["salvage" if n < 3 else "files"] for n in range(4)}
+        self.assertEqual(case.line()["lacks"], lacks)
         self.assertEqual(
-            self.case(left).fault(),
-            "k2 lacks it by `check`, and k0 and `read` has it: the store lost it there,"
-            " or `check` is wrong",
+            self.case("unreadable", Left({1: {KEY: None}})).fault(),
+            f"{text} k0 k1 k2 k3 k4 has it is unknown",
         )
-        case = self.case(left, losses=[(2, 6.0, 7)], heals=[(2, 7.0, 9)])
-        self.assertTrue(
-            case.fault().endswith(
-                "k2 was healed by entry 9: `whole` was wrong, or the store lost it"
-            )
-        )
+
+    def test_wrong(self):
+        for node, who in ((1, "k1"), (None, "`read`")):
+            case = self.case("wrong", lines=[0, node], read=1, told="b")
+            self.assertEqual(case.fault(), f"{who} told b, and a was written")
+            self.assertEqual(case.line()["told"], "b")
 
     def test_stale(self):
-        late = Operation(1, "read", KEY, None, 5_300_000_000, 5_400_000_000, "ok", node=1)
-        left = Left({KEY: VALUE})
-        self.assertEqual(self.case(left, reads=[late]).fault(), "k1 lacked it after 0.300 s")
+        its = {"lines": [0, 1], "read": 1, "after": 300_000_000}
+        case = self.case("stale", **its)
+        self.assertEqual(case.fault(), "k1 lacked it after 0.300 s")
+        self.assertEqual(case.line()["stale"], {"process": "k1", "seconds": 0.3})
         fault = "k1 lacked it after 0.300 s, though the hooks promise fresh"
-        self.assertEqual(self.case(left, reads=[late], is_fresh=True).fault(), fault)
+        self.assertEqual(self.case("stale", is_fresh=True, **its).fault(), fault)
 
     def test_orders_since_it_was_sent_are_told(self):
         orders = [
@@ -526,6 +473,6 @@ class Cases(unittest.TestCase):
             {"entry": 8, "does": None, "beyond": False, "t": 6.0, "targets": [0]},
             {"entry": 9, "does": "Clog", "beyond": False, "t": 7.0, "targets": [3, 4]},
         ]
-        case = self.case(Left({}, disks=self.disks()), orders=orders, able=(0, 2, 3))
+        case = self.lost("store", orders=orders, able=(0, 2, 3))
         struck = [(it["entry"], it["processes"]) for it in case.line()["struck"]]
         self.assertEqual(struck, [(5, ["k0"]), (9, ["k3"])])

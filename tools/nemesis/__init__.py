@@ -4,7 +4,8 @@ import os
 from contextlib import suppress
 
 # How the tool ends.
-NONE_LOST, LOST, USAGE, HOOK, GUARD, TOOL, UNREADABLE, STALE, WRONG = range(9)
+NONE_LOST, LOST, USAGE, HOOK, GUARD, TOOL, UNREADABLE, STALE, WRONG, MISSING = range(10)
+NOT_LINEARIZABLE = 10
 
 
 class Fault(Exception):

@@ -1,6 +1,7 @@
 """Tries each hook on a calm cluster, and says which one is wrong."""
 import asyncio
 import math
+from collections import Counter
 from collections.abc import Iterable, Iterator, Mapping, Sequence
 from pathlib import Path
 from typing import TYPE_CHECKING
@@ -10,6 +11,7 @@ from faultyard.plans import PAUSES, Order
 
 from . import HOOK, USAGE, Fault, clock
 from .clients import Told, pairs
+from .history import Operation
 from .traces import traces
 
 if TYPE_CHECKING:
@@ -125,10 +127,22 @@ class HookCheck:
                 blamed = "`check` is wrong, or it gets no records"
                 raise wrong(f"{text} by `check`, which `read` has: {blamed}")
         for number in told if "check" in self.hooks.names else ():
-            asked = await self.clients.ask_once(number, NEVER)
-            if asked.value is not None:
-                text = f"`check` told {asked.value} for {NEVER}, which nobody wrote"
-                raise wrong(f"{text}: `check` is wrong")
+            wrote_nothing("check", await self.clients.ask_once(number, NEVER))
+        if "get" in self.hooks.names:
+            await self._get()
+
+    async def _get(self) -> None:
+        """Looks at the hook that reads registers, and whether `write` overwrites them."""
+        wrote_nothing("get", await self.clients.get_once(NEVER))
+        (key,) = self.clients.registers
+        writes = Counter(it.error for it in self.run.history.writes.get(key, []))
+        if writes["no"] > writes[None]:
+            text = f"{CALM}, and `write` said no to a key that is there already"
+            raise wrong(f"{text}: with a hook `get` it has to overwrite {key}")
+        got = await self.clients.get_once(key)
+        if got.error or got.value not in [it.value for it in self.run.history.writes[key]]:
+            told = got.error or got.value or "none"
+            raise wrong(f"{CALM}, and `get` told {told} for {key}: `get` is wrong")
 
     # After one was emptied.
 
@@ -284,6 +298,13 @@ def counted(lacks: Iterable[str], known: Iterable[str]) -> str:
     """How many records of how many."""
     first, *more = sorted(lacks)
     return f"{1 + len(more)} of {len(list(known))} records ({first}{' ..' if more else ''})"
+
+
+def wrote_nothing(hook: str, asked: Operation) -> None:
+    """A hook may tell nothing of a key that nobody wrote."""
+    if asked.value is not None:
+        text = f"`{hook}` told {asked.value} for {asked.key}, which nobody wrote"
+        raise wrong(f"{text}: `{hook}` is wrong")
 
 
 def wrong(text: str) -> Fault:

@@ -34,6 +34,11 @@ class Clients:
         self.hooks, self.ledger, self.history = hooks, harness.ledger, history
         self._harness = harness
         self._acked: list[str] = []
+        self.registers: list[str] = []  # keys that are written again and again
+
+    def begin_registers(self, count: int) -> None:
+        """Before anything is written: the first keys are registers, the others records."""
+        self.registers = [key_of(self.ledger.send()) for _ in range(count)]
 
     async def _talk(self, name: str, once: Once, is_over: Callable[[], bool] = bool) -> None:
         """Runs a co-process that is asked again and again, and another where it ends or hangs."""
@@ -79,26 +84,29 @@ class Clients:
         return line.decode(errors="replace").split(), None if line.endswith(b"\n") else "ended"
 
     async def write(self, dice: Random) -> None:
-        """Writes records, one after the other, until it is cancelled."""
+        """Writes records, and as often registers, if there are any, until it is cancelled."""
         client = self.history.client()
 
         async def once(process: Process) -> str | None:
-            error = await self._write_one(process, client, f"{dice.getrandbits(64):016x}")
+            error = await self._write_one(process, client, dice)
             if error == "no":
                 await asyncio.sleep(REFUSED)
             return error
 
         await self._talk("write", once)
 
-    async def _write_one(self, process: Process, client: Client, value: str) -> str | None:
-        number = self.ledger.send()
-        key = f"{PREFIX}{number:09d}"
+    async def _write_one(self, process: Process, client: Client, dice: Random) -> str | None:
+        number, value = self.ledger.send(), f"{dice.getrandbits(64):016x}"
+        is_register = bool(self.registers) and dice.random() < 0.5
+        key = dice.choice(self.registers) if is_register else key_of(number)
         with self.history.write(client, key, value) as operation:
             match await self._ask(process, f"{key} {value}"):
                 case _, str(error):
                     operation.unknown(error)
                 case ["ok", mark], _ if mark.isdecimal():
-                    if self.ledger.acknowledge(number, key, value, int(mark)):
+                    if is_register and self.ledger.counts(number, int(mark)):
+                        operation.ok(value)
+                    elif not is_register and self.ledger.acknowledge(number, key, value, int(mark)):
                         operation.ok(value)
                         self._acked.append(key)
                     else:
@@ -127,19 +135,43 @@ class Clients:
     async def _check_one(self, asked: Process, client: Client, number: int, key: str) -> Operation:
         """Asks one process for one record."""
         with self.history.read(client, key, number, self.is_whole(number)) as operation:
-            match await self._ask(asked, f"{number} {key}"):
-                case _, str(error):
-                    operation.fail(error)
-                case ["?"], _:
-                    operation.fail("?")
-                case ["none"], _:
-                    operation.ok(None)
-                case [value], _:
-                    operation.ok(value)
-                case words, _:
-                    raise unexpected("check", words, "a value, 'none' or '?'")
+            await self._read_one("check", asked, f"{number} {key}", operation)
             operation.is_whole &= self.is_whole(number)
         return operation
+
+    async def _read_one(self, name: str, asked: Process, text: str, operation: Operation) -> None:
+        match await self._ask(asked, text):
+            case _, str(error):
+                operation.fail(error)
+            case ["?"], _:
+                operation.fail("?")
+            case ["none"], _:
+                operation.ok(None)
+            case [value], _:
+                operation.ok(value)
+            case words, _:
+                raise unexpected(name, words, "a value, 'none' or '?'")
+
+    async def get(self, dice: Random) -> None:
+        """Asks the store for random registers, until it is cancelled."""
+        client = self.history.client()
+
+        async def once(process: Process) -> str | None:
+            await asyncio.sleep(READ_PAUSE)
+            return (await self._get_one(process, client, dice.choice(self.registers))).error
+
+        await self._talk("get", once)
+
+    async def _get_one(self, asked: Process, client: Client, key: str) -> Operation:
+        """Asks the store as a whole for one key."""
+        with self.history.read(client, key, None) as operation:
+            await self._read_one("get", asked, key, operation)
+        return operation
+
+    async def get_once(self, key: str) -> Operation:
+        """Asks the store as a whole for one key, whatever it is."""
+        async with self.hooks.running("get", stdin=PIPE, stdout=PIPE) as process:
+            return await self._get_one(process, self.history.client(), key)
 
     def is_whole(self, number: int) -> bool:
         """Whether a process counts as up, with all records."""
@@ -228,6 +260,11 @@ class Clients:
             if clock() > until or not self.ledger.able:
                 return None
             await asyncio.sleep(0.5)
+
+
+def key_of(number: int) -> str:
+    """The key of the record that is written so manyth."""
+    return f"{PREFIX}{number:09d}"
 
 
 def unexpected(hook: str, words: list[str], expected: str) -> Fault:

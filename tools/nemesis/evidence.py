@@ -1,15 +1,65 @@
-"""The case for the defence: who could hold a record that isn't kept, what became of them, and whose
-fault it is by the guarantee of the guard."""
-from collections.abc import Iterable, Mapping, Sequence
-from dataclasses import dataclass
-from functools import cached_property
+"""The case of each record that isn't kept: what the program says of it, in words, and what was done
+in the run to those who could hold it."""
+from collections.abc import Callable, Iterable, Mapping, Sequence, Set
+from dataclasses import dataclass, field
 from typing import Any
 
-from faultyard import Kind
 from faultyard.ledger import Heal, Loss, Record
 
-from .history import Operation
-from .verdicts import Judged, Left, Verdict
+from .history import PREFIX, Operation
+from .verdicts import Verdict
+
+Found = Mapping[str, str | None]  # by key; None where a read that was answered lacks it
+Disk = Mapping[str, str] | None  # what the folder of a process has, if that is known
+MORE = "?"  # the key by which a disk says that it may have more, which couldn't be read
+Judged = Mapping[str, Any]  # a record, as the program says what became of it
+
+
+@dataclass(frozen=True)
+class Left:
+    """What was found at the end of a run."""
+
+    checked: Mapping[int, Found] = field(default_factory=dict)
+    """What each process that is up and whole told last, by its number."""
+    disks: Mapping[int, Disk] = field(default_factory=dict)
+    """What the folder of each process has, by its number, if that was asked for."""
+    traces: Mapping[int, Set[str]] = field(default_factory=dict)
+    """The keys of which something stands in the files of a process whose disk isn't all known."""
+
+    def is_told(self, number: int) -> bool:
+        """Whether all that a process's folder has was told."""
+        disk = self.disks.get(number)
+        return disk is not None and MORE not in disk
+
+    def has(self, key: str, value: str) -> dict[int, list[str]]:
+        """Who told a record, and how."""
+        return self._by(lambda told: told.get(key) == value, lambda n: self._tells(n, key, value))
+
+    def lacks(self, key: str, value: str) -> dict[int, list[str]]:
+        """Who told that it lacks a record, and how."""
+        return self._by(
+            lambda told: key in told and told[key] != value, lambda n: self._denies(n, key, value)
+        )
+
+    def _tells(self, number: int, key: str, value: str) -> str:
+        return "salvage" if (self.disks.get(number) or {}).get(key) == value else ""
+
+    def _denies(self, number: int, key: str, value: str) -> str:
+        if number not in self.disks or self._tells(number, key, value):
+            return ""
+        if self.is_told(number):
+            return "salvage"
+        return "files" if key not in self.traces.get(number, {key}) else ""
+
+    def _by(
+        self, checked: Callable[[Found], bool], disk: Callable[[int], str]
+    ) -> dict[int, list[str]]:
+        found: dict[int, list[str]] = {}
+        for number in sorted(self.checked.keys() | self.disks.keys()):
+            how = ["check"] if checked(self.checked.get(number, {})) else []
+            if how := how + [it for it in [disk(number)] if it]:
+                found[number] = how
+        return found
 
 
 @dataclass(frozen=True)
@@ -22,34 +72,28 @@ class Course:
     heals: Sequence[Heal]
     left: Left
     is_fresh: bool  # whether the store promises that no answer lags
-
-    @cached_property
-    def beyond(self) -> Mapping[str, Any] | None:
-        """The first order that destroyed more than the guard said."""
-        orders = (it for it in self.orders if it["beyond"] and it["does"])
-        return next((it for it in orders if Kind(it["does"]).empties_disk), None)
+    lines: Sequence[Mapping[str, Any]] = ()  # of the history
 
     def told(self, numbers: Iterable[int]) -> str:
         """The names of processes."""
-        return " ".join(self.names[number] for number in sorted(numbers))
+        return " ".join(self.names[number] for number in sorted(set(numbers)))
+
+    def who(self, line: int) -> str:
+        """Who was asked by the read that ends in a line."""
+        node: int | None = self.lines[line]["node"]
+        return "`read`" if node is None else self.names[node]
 
 
 class Case:
     """A record that isn't kept, and what is known of those who could hold it."""
 
-    def __init__(self, judged: Judged, record: Record, course: Course) -> None:
-        self.judged, self.record, self.course = judged, record, course
-        self.key, self.verdict = judged.write.key, judged.verdict
-        self.destroyed = self._since(course.losses)
-        last = {it.process: it.t for it in course.losses}
-        self.healed = {
-            n: entries
-            for n, entries in self._since(course.heals).items()
-            if max(it.t for it in course.heals if it.process == n) > last[n]
-        }
+    def __init__(self, judged: Judged, sent: int, record: Record, course: Course) -> None:
+        self.judged, self.sent, self.record, self.course = judged, sent, record, course
+        self.key, self.verdict = judged["key"], Verdict(judged["verdict"])
+        self.destroyed, self.healed = self._since(course.losses), self._since(course.heals)
         self.never = set(record.able) - self.destroyed.keys()
-        self.holds, self.lacks = self._told(has=True), self._told(has=False)
-        self.counted = self.never | self.healed.keys()  # one of them has to hold it
+        self.holds = course.left.has(self.key, record.value)
+        self.lacks = course.left.lacks(self.key, record.value)
 
     def _since(self, what: Sequence[Loss] | Sequence[Heal]) -> dict[int, list[int | None]]:
         """The entries by which processes were destroyed or healed since the acknowledgement."""
@@ -59,131 +103,89 @@ class Case:
                 found.setdefault(it.process, []).append(it.entry)
         return found
 
-    def _told(self, has: bool) -> dict[int, list[str]]:
-        """Who is known to have it, or not to have it, and how that is known."""
-        left, value, found = self.course.left, self.record.value, dict[int, list[str]]()
-        for number, told in left.checked.items():
-            if self.key in told and (told[self.key] == value) is has:
-                found.setdefault(number, []).append("check")
-        having = left.on_disk_of(self.key, value)
-        for number in left.disks:
-            if number in having if has else left.is_off_disk(number, self.key, value):
-                how = "salvage" if has or left.is_told(number) else "files"
-                found.setdefault(number, []).append(how)
-        return found
-
     def fault(self) -> str:
         """Whose fault it is, in one sentence."""
-        if self.verdict is Verdict.LOST:
-            return self._beyond() or self._lost_here() or self._lost()
-        if self.verdict is Verdict.STALE:
-            return self._stale()
-        if self.verdict is Verdict.WRONG:
-            return "the store told another value than was written"
-        return f"unknown: no read was answered, and {self._unknown(range(len(self.course.names)))}"
+        match self.verdict:
+            case Verdict.LOST:
+                return self._lost()
+            case Verdict.MISSING:
+                return self._missing()
+            case Verdict.STALE:
+                return self._stale()
+            case Verdict.WRONG:
+                who, told = self.course.who(self.judged["read"]), self.judged["told"]
+                return f"{who} told {told}, and {self.record.value} was written"
+        return f"unknown: no read told it at the end, and {self._unknown()}"
 
-    def _beyond(self) -> str:
-        """What is said where the guarantee had ended."""
-        if (order := self.course.beyond) is None:
-            return ""
-        told, entry = self.course.told, order["entry"]
-        text = f"beyond the guard since entry {entry}"
-        took = [n for n in self.record.able if entry in self.destroyed.get(n, ())]
-        if took:
+    def _lost(self) -> str:
+        match self.judged["fault"]:
+            case {"beyond": entry}:
+                return self._beyond(entry)
+            case "store":
+                return self._by_store()
+            case {"store_or_whole": heals}:
+                return _too_early(self.course, [(number, entry) for number, entry in heals])
+        return self._told_apart()
+
+    def _beyond(self, entry: int) -> str:
+        """Where the guarantee had ended."""
+        text, told = f"beyond the guard since entry {entry}", self.course.told
+        if took := [n for n in self.record.able if entry in self.destroyed.get(n, ())]:
             text += f", which destroyed {told(took)} who could hold it"
         return f"{text}; {told(self.holds)} has it" if self.holds else text
 
-    def _lost_here(self) -> str:
-        """What is said where only some lack it: those that `check` asked, or `read` alone."""
-        told, read = self.course.told, self.course.left.read
-        has_read = read is not None and read.get(self.key) == self.record.value
-        checks = [{n for n, how in it.items() if "check" in how} for it in (self.holds, self.lacks)]
-        having, lacking = checks
-        if read is not None and not has_read:
-            if having and not lacking:
-                text = f"`read` lacks it, and {told(having)} told it by `check`"
-                return f"{text}: `read` or the store is wrong"
-            return ""
-        if not lacking or not (has_read or self.holds):
-            return ""
-        having = self.holds.keys() - lacking
-        others = " and ".join(filter(None, [told(having), "`read`" if has_read else ""]))
-        text = f"{told(lacking)} lacks it by `check`"
-        if on_disk := lacking & self.holds.keys():
+    def _by_store(self) -> str:
+        """Where some holder was never destroyed, by the guarantee."""
+        never = set(range(len(self.course.names))) - set(self.judged["destroyed"])
+        one = "" if len(never) == 1 else "one of "
+        none = ", and none has it" if never <= self.lacks.keys() - self.holds.keys() else ""
+        text = f"{one}{self.course.told(never)} held it and was never destroyed since{none}"
+        return f"{text}: the store lost it"
+
+    def _told_apart(self) -> str:
+        """Where some have it, or `read` didn't say."""
+        tells, disks = (self.course.told(self.judged[it]) for it in ("tells", "disks"))
+        if self.judged["read"] is None:
+            lacks = self.course.told(n for n, how in self.lacks.items() if "check" in how)
+            text = f"{lacks} lacks it by `check`, and `read` had no answer"
+            return f"{text}; {tells} told it" if tells else text
+        if tells:
+            return f"`read` lacks it, and {tells} told it by `check`: `read` or the store is wrong"
+        return f"`read` lacks it, and the disk of {disks} has it: does the store serve it?"
+
+    def _missing(self) -> str:
+        """Where some process alone lacks it."""
+        lacks, told = {number for number, _ in self.judged["lacks"]}, self.course.told
+        text = f"{told(lacks)} lacks it by `check`"
+        if on_disk := lacks & set(self.judged["disks"]):
             text += f", though the disk of {told(on_disk)} has it"
-        text += f", and {others} has it" if others else ""
-        if too_early := lacking & self.healed.keys():
-            return f"{text}; {self._too_early(too_early)}"
+        if has := self.holds.keys() - lacks:
+            text += f", and {told(has)} has it"
+        if heals := [(n, it) for n in sorted(lacks) for it in self.healed.get(n, ())]:
+            return f"{text}; {_too_early(self.course, heals)}"
         return f"{text}: the store lost it there, or `check` is wrong"
 
-    def _too_early(self, healed: Iterable[int]) -> str:
-        """What is said of those who were healed, and perhaps too early."""
-        numbers = sorted(healed)
-        entries = numbered(entry for n in numbers for entry in self.healed[n])
-        was = f"{self.course.told(numbers)} {'were' if len(numbers) > 1 else 'was'}"
-        return f"{was} healed by {entries}: `whole` was wrong, or the store lost it"
-
-    def _lost(self) -> str:
-        """What is said where the guard did its part."""
-        told, held = self.course.told, self.holds.keys()
-        if held & self.never:
-            return f"{told(held & self.never)} holds it and was never destroyed: the store lost it"
-        if held & self.healed.keys():
-            return f"{told(held & self.healed.keys())} holds it and was healed: the store lost it"
-        if not self.counted:
-            entries = numbered(entry for it in self.destroyed.values() for entry in it)
-            return f"every holder was destroyed by {entries}, which the guard allowed: tell us"
-        if not self.never:
-            return f"of those who could hold it {self._too_early(self.healed)}"
-        were, none = ("were", "none has it") if len(self.never) > 1 else ("was", "doesn't have it")
-        known = f"{told(self.never)} could hold it and {were} never destroyed since"
-        is_known = self.counted <= self.lacks.keys()
-        known += f", and {none if is_known else self._unknown(self.counted)}"
-        if self.healed and not self._were_down_at_once():
-            return f"{known}; {self._too_early(self.healed)}"
-        if not is_known:  # `read` alone lacks it
-            return f"unknown: {known}: the store lost it, or `read` lags"
-        return f"{known}: the store lost it"
-
-    def _were_down_at_once(self) -> bool:
-        """Whether all that were destroyed at its acknowledgement or later were so at one moment.
-
-        The guard allowed that moment, so another one had the record, whoever was healed then.
-        """
-        down = set(range(len(self.course.names))) - set(self.record.able)
-        ever = down | self.destroyed.keys()
-        changes = [(it.t, it.process, True) for it in self.course.losses if it.t >= self.record.t]
-        changes += [(it.t, it.process, False) for it in self.course.heals if it.t >= self.record.t]
-        for _, process, is_loss in sorted(changes):
-            (down.add if is_loss else down.discard)(process)
-            if down >= ever:
-                return True
-        return down >= ever
-
-    def _unknown(self, asked: Iterable[int]) -> str:
-        """What isn't known of the disks of these."""
-        left, value = self.course.left, self.record.value
-        unknown = [n for n in asked if not left.is_told(n)]
-        unknown = [n for n in unknown if not left.is_off_disk(n, self.key, value)]
+    def _unknown(self) -> str:
+        """What isn't known of the disks."""
+        numbers = range(len(self.course.names))
+        unknown = [n for n in numbers if not {"salvage", "files"} & {*self.lacks.get(n, ())}]
         return f"whether the disk of {self.course.told(unknown)} has it is unknown"
 
     def _stale(self) -> str:
-        read = self.judged.lacking
-        assert read and read.node is not None
-        where = "" if read.is_whole else ", which was not whole again,"
-        text = f"{self.course.names[read.node]}{where} lacked it after {self.judged.stale:.3f} s"
+        text = f"{self.course.who(self.judged['read'])} lacked it after {self._seconds():.3f} s"
         return f"{text}, though the hooks promise fresh" if self.course.is_fresh else text
+
+    def _seconds(self) -> float:
+        return round(int(self.judged["after"]) / 1e9, 3)
 
     def line(self) -> dict[str, Any]:
         """All of it, as a line of records.jsonl."""
-        names, record = self.course.names, self.record
-        read = self.judged.lacking
-        who = None if read is None or read.node is None else names[read.node]
-        return {
+        names, record, is_stale = self.course.names, self.record, self.verdict is Verdict.STALE
+        line = {
             "key": self.key,
             "verdict": self.verdict.value,
             "value": record.value,
-            "sent": round(self.judged.write.began / 1e9, 3),
+            "sent": round(self.sent / 1e9, 3),
             "acked": record.t,
             "entry": record.entry,
             "able": [names[number] for number in record.able],
@@ -193,19 +195,30 @@ class Case:
             "struck": self._struck(),
             "holds": {names[number]: it for number, it in self.holds.items()},
             "lacks": {names[number]: it for number, it in self.lacks.items()},
-            "stale": read and {"process": who, "seconds": self.judged.stale},
             "fault": self.fault(),
         }
+        if is_stale:
+            who = self.course.who(self.judged["read"])
+            line["stale"] = {"process": who, "seconds": self._seconds()}
+        return line | ({"told": self.judged["told"]} if self.verdict is Verdict.WRONG else {})
 
     def _struck(self) -> list[dict[str, Any]]:
         """The orders since it was sent that struck one who could hold it."""
-        sent, able = self.judged.write.began / 1e9, set(self.record.able)
+        sent, able = self.sent / 1e9, set(self.record.able)
         return [
             {"entry": it["entry"], "t": it["t"], "kind": it["does"], "processes": struck}
             for it in self.course.orders
             if it["does"] and it["t"] >= sent
             if (struck := [self.course.names[n] for n in it["targets"] if n in able])
         ]
+
+
+def _too_early(course: Course, heals: Sequence[tuple[int, int | None]]) -> str:
+    """What is said of those who were healed, and perhaps too early."""
+    numbers = {number for number, _ in heals}
+    was = f"{course.told(numbers)} {'were' if len(numbers) > 1 else 'was'}"
+    entries = numbered(entry for _, entry in heals)
+    return f"{was} healed by {entries}: `whole` was wrong, or the store lost it"
 
 
 def numbered(entries: Iterable[int | None]) -> str:
@@ -217,14 +230,27 @@ def numbered(entries: Iterable[int | None]) -> str:
     return f"entries {', '.join(first)} and {last}" if first else f"entry {last}"
 
 
-def wrong_line(read: Operation, write: Operation | None, names: Sequence[str]) -> dict[str, Any]:
+def unwritten(
+    acked: Set[str], writes: Mapping[str, Sequence[Operation]], reads: Iterable[Operation]
+) -> list[Operation]:
+    """The first read of each key that isn't an acknowledged record's, and told what nobody wrote
+    there. A key that the tool never writes is the store's own, unless it looks like the tool's."""
+    found: dict[str, Operation] = {}
+    for read in reads:
+        is_ours = read.key in writes or read.key.startswith(PREFIX)
+        values = {write.value for write in writes.get(read.key, ())} | {None}
+        if is_ours and read.key not in acked and read.value not in values:
+            found.setdefault(read.key, read)
+    return list(found.values())
+
+
+def unwritten_line(read: Operation, is_known: bool, names: Sequence[str]) -> dict[str, Any]:
     """A value that was never written, as a line of records.jsonl."""
     who = "`read`" if read.node is None else names[read.node]
-    wrote = f"{write.value} was written" if write else "nobody wrote that key"
+    wrote = "nobody wrote that there" if is_known else "nobody wrote that key"
     return {
         "key": read.key,
-        "verdict": Verdict.WRONG.value,
-        "value": write and write.value,
+        "verdict": "unwritten",
         "told": read.value,
         "process": read.node if read.node is None else names[read.node],
         "t": round(read.ended / 1e9, 3),

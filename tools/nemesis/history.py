@@ -70,7 +70,7 @@ class History:
     """Writes and reads in the order in which they began and ended, also as lines of a file."""
 
     def __init__(self, path: Path, ledger: Ledger) -> None:
-        self.writes: dict[str, Operation] = {}  # by key, each of which is written once
+        self.writes: dict[str, list[Operation]] = {}  # by key
         self.reads: list[Operation] = []  # that were answered
         self._file = path.open("w", encoding="utf-8")
         self._ledger, self._index, self._clients = ledger, itertools.count(), itertools.count()
@@ -90,15 +90,18 @@ class History:
     def write(self, client: Client, key: str, value: str) -> Iterator[Operation]:
         """A write, which has ended when the block ends."""
         operation = Operation(client.process, "write", key, value, self._ledger.now_ns())
-        self.writes[key] = operation
+        self.writes.setdefault(key, []).append(operation)
         with self._told(operation):
             yield operation
         if operation.type == "info":
             client.renew()
 
     @contextmanager
-    def read(self, client: Client, key: str, node: int, is_whole: bool) -> Iterator[Operation]:
-        """A read that a process is asked for, which has failed unless the block says otherwise."""
+    def read(
+        self, client: Client, key: str, node: int | None, is_whole: bool = True
+    ) -> Iterator[Operation]:
+        """A read that a process is asked for, or the store, which has failed unless the block says
+        otherwise."""
         now = self._ledger.now_ns()
         operation = Operation(client.process, "read", key, None, now, node=node, is_whole=is_whole)
         operation.fail("?")

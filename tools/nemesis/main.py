@@ -30,12 +30,12 @@ from .orders import KINDS
 from .places import places
 from .picture import draw
 from .run import Run
-from .summary import MILD, closing, tested_little
+from .summary import MILD, besides, closing, tested_little
 from .verdicts import Verdict
 
 # The words that only some plans draw by.
 DRAWN = {"kinds": ("mixed", "attrition", "swizzle"), "pauses": ("mixed", "blackout", "partition")}
-LEAST = {"seed": 0, "seconds": 0, "writers": 1, "readers": 0, "hook_timeout": 0.1}
+LEAST = {"seed": 0, "seconds": 0, "writers": 1, "readers": 0, "registers": 0, "hook_timeout": 0.1}
 SHOWN = 5  # cases that are told on the terminal; records.jsonl has all
 
 
@@ -95,6 +95,10 @@ def parsed(given: Sequence[str] | None = None) -> argparse.Namespace:
     add("--check-hooks", action="store_true", help="have each hook called on a calm cluster")
     add("--writers", type=int, default=3, help="how many write hooks run (3)")
     add("--readers", type=int, default=2, help="how many check hooks run, if there is one (2)")
+    text = (
+        "write N keys again and again, read them by the hook get, and ask if that is linearizable"
+    )
+    add("--registers", type=int, default=0, metavar="N", help=text)
     text = "how long a hook may take; setup, join, elect, read and salvage six times as long (10)"
     add("--hook-timeout", type=float, default=10.0, metavar="SECONDS", help=text)
     text = "ask a faultyard-serve by its socket or URL, and do what others are answered there too"
@@ -241,8 +245,7 @@ def write_files(run: Run) -> str:
     """Writes what a run leaves beside its events; whether its audit is legal, in words."""
     words, audit, beyond = run.words, run.guard.audit(), run.beyond()
     run.history.flush()
-    keys = [it.write.key for it in run.judged if it.verdict is Verdict.LOST]
-    lost = [run.named(run.ledger.loss_of(key)) for key in keys]
+    lost = [run.named(run.ledger.loss_of(key)) for key in run.judged.keys(Verdict.LOST)]
     for name, found in (("lost.jsonl", lost), ("records.jsonl", run.cases)):
         if found:
             (words.out / name).write_text("".join(f"{json.dumps(it)}\n" for it in found))
@@ -262,7 +265,7 @@ def write_files(run: Run) -> str:
 def after_cuts(run: Run) -> list[str]:
     """What may be the work of a power cut: records that are missing, and who did not start
     again."""
-    lost = run.counts()["lost"]
+    lost = run.judged["lost"] + run.judged["missing"]
     if not run.cuts or not (lost or run.down):
         return []
     lines = [f"records missing after power cuts: {lost}"] if lost else []
@@ -275,18 +278,19 @@ def after_cuts(run: Run) -> list[str]:
 
 def report(run: Run, is_read: bool = True) -> int:
     """Prints what a run comes to, and says how the tool ends."""
-    words, counts, checked = run.words, run.counts(), write_files(run)
+    words, judged, checked = run.words, run.judged, write_files(run)
     title = f"seed {words.seed}"
     title += f", {run.partitions} partitions" if run.partitions else ""
     lines = run.summary(title) + run.notes + run.power() + after_cuts(run)
     lines += run.ended_by_themselves()
-    acked = len(run.ledger.records)
     if is_read and not words.check_hooks:
-        lines += tested_little(run.amount(), is_control=words.unguarded and counts["lost"] > 0)
-        if words.unguarded and not counts["lost"] + counts["unreadable"]:
+        lines += tested_little(run.amount(), is_control=words.unguarded and judged["lost"] > 0)
+        if words.unguarded and not judged.is_unclear:
             lines.append(MILD)
     lines += told_cases(run.cases, SHOWN)
-    ending = closing(acked, counts) if is_read else f"{acked} acknowledged so far, not read"
+    lines += [*besides(judged), *run.linear.told(SHOWN)] if is_read else []
+    acked = len(run.ledger.records)
+    ending = closing(judged) if is_read else f"{acked} acknowledged so far, not read"
     (words.out / "picture.svg").write_text(draw(words.out, run.file, [lines[0], ending]), "utf-8")
     lines.append(f"{ending}; audit {checked}; {words.out}")
     if words.check_hooks:
@@ -294,4 +298,4 @@ def report(run: Run, is_read: bool = True) -> int:
     say("\n".join(lines))
     if checked != f"legal {run.guard.journal_len()}":
         return GUARD
-    return summary.status(counts, "fresh" in run.hooks.names, run.is_unread)
+    return summary.status(judged, run.linear, "fresh" in run.hooks.names, run.is_unread)

@@ -16,6 +16,7 @@ LEFT, RIGHT, LETTER = 150, 24, 6.3  # of the plot, and of a letter
 CHART = 84  # how high the curve of the writes is
 MOST_LETTERS = 205  # of a line below
 LISTED = 12  # orders that are explained below; a picture is no log
+KINDS = {"stale": "stale"} | dict.fromkeys(("lost", "wrong", "unwritten", "missing"), "lost")
 BOLT = "l-5 9h4l-2 7l7 -9h-4l3 -7z"
 SHORT = {
     Kind.REBOOT_PROCESS: ("P", "Process"),
@@ -94,7 +95,7 @@ class _Picture:
         self.takers = {taken for record in lost for taken in record.taken}
         self.top = 20 + 18 * len(told) + 48  # of the chart
         strips = {record.verdict for record in run.records}
-        order = ("lost", "wrong", "stale", "unreadable")
+        order = ("lost", "wrong", "unwritten", "missing", "stale", "unreadable")
         self.strips = [it for it in order if it in strips]
         self.rows = rows_of(run.partitions)
         rows = len(self.strips) + max(self.rows, default=-1) + 1
@@ -207,7 +208,7 @@ class _Picture:
             those = [it for it in self.run.records if it.verdict == verdict]
             y = self.top + CHART + 18 + 16 * row
             yield f'<text x="16" y="{y + 4}">{len(those)} {verdict}</text>'
-            kind = {"lost": "lost", "wrong": "lost", "stale": "stale"}.get(verdict, "other")
+            kind = KINDS.get(verdict, "other")
             for record in those:
                 x = self.x(record.t)
                 yield f'<path d="M{x} {y - 6}V{y + 6}" class="tick {kind}">'

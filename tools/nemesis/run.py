@@ -2,26 +2,29 @@
 import asyncio
 from argparse import Namespace
 from collections import Counter
-from collections.abc import AsyncIterator
+from collections.abc import AsyncIterator, Mapping, Set
 from contextlib import asynccontextmanager, suppress
 from dataclasses import replace
+from itertools import chain
 from random import Random
 from typing import Any
 
 from faultyard import FaultyardError, Guard, Kind
+from faultyard.ledger import Record
 from faultyard.replies import Entry
 
-from . import HOOK, Fault
+from . import HOOK, USAGE, Fault
 from .checks import HookCheck
 from .clients import Clients, Pairs, pairs
-from .evidence import Case, Course, wrong_line
-from .history import History, Operation
+from .evidence import MORE, Case, Course, Disk, Left, unwritten, unwritten_line
+from .history import History
 from .machine import Machine
 from .orders import Orders, Timed
 from .store import AGAIN, Store, cancelled
 from .summary import Amount, failures
+from .timeline import lines_of
 from .traces import traces
-from .verdicts import MORE, Disk, Judged, Left, Verdict, judged, wrong
+from .verdicts import Judged, Linear, Verdict, judged, linear
 
 PATIENT = 10.0  # seconds after which the first order is done though no record is acknowledged
 
@@ -39,8 +42,8 @@ def first_of(faults: ExceptionGroup[Exception]) -> Exception:
 
 
 class Run(Store):
-    judged: list[Judged] = []  # what became of each acknowledged record
-    wrong: list[Operation] = []  # reads of what was never written
+    judged = Judged()  # what became of each acknowledged record
+    linear = Linear()  # what became of registers
     cases: list[dict[str, Any]] = []  # the evidence of each that isn't kept, as in records.jsonl
     is_unread = False  # whether `read` hung, so that only disks and `check` can say what is left
 
@@ -55,6 +58,7 @@ class Run(Store):
     async def whole(self) -> None:
         """The run from its first process to what could be read."""
         await self.learn()
+        self._have_registers()
         orders = Orders(self.words, self.file, self.fault)
         try:
             await self.lay_out()
@@ -88,6 +92,12 @@ class Run(Store):
                 end = self.hooks.ends.get(number, "no hook has answered")
                 self.notes.append(f"{self.names[number]} may still run where it is: {end}")
 
+    def _have_registers(self) -> None:
+        words, can_get = self.words, "get" in self.hooks.names
+        if words.registers and not can_get:
+            raise Fault(USAGE, f"--registers needs a hook get, and {words.hooks} has none")
+        self.clients.begin_registers(words.registers or (words.check_hooks and can_get))
+
     async def _chaos(self, orders: list[Timed]) -> None:
         """Writes and orders, until all that was clogged is let go again."""
         words = self.words
@@ -95,6 +105,9 @@ class Run(Store):
         work = [self.clients.write(it) for it in dice[: words.writers]]
         if "check" in self.hooks.names:
             work += [self.clients.check(it) for it in dice[words.writers :]]
+        if self.clients.registers:
+            more = (Random(f"{words.seed}-get-{n}") for n in range(max(words.readers, 1)))
+            work += [self.clients.get(it) for it in more]
         if words.guard:
             work.append(self.follow())
         behind = [self.tasks.create_task(it) for it in work]
@@ -151,10 +164,12 @@ class Run(Store):
             self.notes.append(f"nothing could be read {when}: {end}")
             self.is_unread = end.status is None
         checked = await self._check_all(acked) if "check" in self.hooks.names else {}
+        if checked and set(acked) - dict(found or ()).keys():
+            await self.clients.read()  # it has the last word, and may have lagged
         self.notes += [f"at the end {text}" for text in self.waiting()]
         runs = self.up | self.gone
         self.down = [name for number, name in enumerate(self.names) if number not in runs]
-        return Left(found if found is None else dict(found), checked)
+        return Left(checked)
 
     async def _check_all(self, keys: list[str]) -> dict[int, dict[str, str | None]]:
         """What each process that is up and whole tells, once those that come back had some time."""
@@ -176,15 +191,19 @@ class Run(Store):
 
     async def _judge(self, left: Left) -> None:
         """Says what became of each record; the disks are looked at where that isn't clear."""
-        writes, reads = self.history.writes, self.history.reads
-        self.judged = judged(self.ledger.records, writes, reads, left)
-        unclear = {Verdict.LOST, Verdict.UNREADABLE}
-        if "salvage" in self.hooks.names and unclear & {it.verdict for it in self.judged}:
+        self._have_judged()
+        if "salvage" in self.hooks.names and self.judged.is_unclear:
             left = await self._looked_through(replace(left, disks=await self._salvaged()))
-            self.judged = judged(self.ledger.records, writes, reads, left)
-        self.wrong = wrong(writes, reads)
-        self.cases = self._cases(self._course(left))
-        self.note("read", acked=len(self.judged), **self.counts())
+            self._have_judged()
+        if self.words.registers:
+            self.linear = linear(self.words.out)
+        self.cases = self._cases(left)
+        verdicts = {it.value: self.judged[it] for it in Verdict}
+        self.note("read", acked=self.judged["acknowledged"], **verdicts)
+
+    def _have_judged(self) -> None:
+        self.history.flush()
+        self.judged = judged(self.words.config, self.words.out)
 
     async def _salvaged(self) -> dict[int, Disk]:
         """What the folder of each process has; those that the tool emptied have nothing.
@@ -202,15 +221,16 @@ class Run(Store):
 
     async def _looked_through(self, left: Left) -> Left:
         """With what stands in the files of those whose `salvage` gave nothing, if it would show."""
-        records, found = {key: it.value for key, it in self.ledger.records.items()}, {}
-        unknown = set(left.disks) - self.elsewhere.unfetched
-        unknown = sorted(number for number in unknown if not left.is_told(number))
+        written = {key: its[0].value or "" for key, its in self.history.writes.items()}
+        acked, found = self.ledger.records.keys(), dict[int, Set[str]]()
+        fetched = set(left.disks) - self.elsewhere.unfetched
+        unknown = sorted(number for number in fetched if not left.is_told(number))
         for number in unknown if "plain" in self.hooks.names else ():
             try:
                 folder = self.words.out / str(number)
-                keys = found[number] = await asyncio.to_thread(traces, folder, records)
+                keys = found[number] = await asyncio.to_thread(traces, folder, written)
                 self.history.looked_through(number, keys)
-                text = f"have something of {len(keys)} of {len(records)} records"
+                text = f"have something of {len(keys & acked)} of {len(acked)} records"
             except OSError as fault:
                 text = f"can't be read: {fault}"
             self.notes.append(f"the files of {self.names[number]} {text}")
@@ -234,31 +254,18 @@ class Run(Store):
         self.notes.append(f"the disk of {self.names[number]} is unknown: {why}")
         return None
 
-    def _course(self, left: Left) -> Course:
-        """What was done, for the case of each record."""
-        return Course(
-            self.names,
-            self.orders,
-            self.ledger.losses,
-            self.ledger.heals,
-            left,
-            "fresh" in self.hooks.names,
-        )
-
     def unread(self) -> None:
-        """Says what is known of the records where nothing was read in the end."""
-        self.judged, self.wrong = [], wrong(self.history.writes, self.history.reads)
-        self.cases = self._cases(self._course(Left()))
-
-    def counts(self) -> dict[str, int]:
-        """How many records there are of each verdict; wrong are all keys that were read so."""
-        counts = Counter(it.verdict for it in self.judged)
-        return {it.value: counts[it] for it in Verdict} | {"wrong": len(self.wrong)}
+        """Says what is known of the records where nothing was read in the end: which are wrong."""
+        with suppress(Fault):
+            self._have_judged()
+            wrong = [it for it in self.judged.lines if it["verdict"] == Verdict.WRONG]
+            self.judged = replace(self.judged, lines=wrong)
+            self.cases = self._cases(Left())
 
     def amount(self) -> Amount:
         """How much was done."""
         ledger, failed = self.ledger, ("no", "hung", "ended", "late")
-        errors = Counter(it.error for it in self.history.writes.values())
+        errors = Counter(it.error for it in chain(*self.history.writes.values()))
         return Amount(
             acked=len(ledger.records),
             pauses=ledger.pauses(),
@@ -269,14 +276,20 @@ class Run(Store):
             said=self.hooks.said_by_write(),
         )
 
-    def _cases(self, course: Course) -> list[dict[str, Any]]:
+    def _cases(self, left: Left) -> list[dict[str, Any]]:
         """The evidence of all records that aren't kept, and of all that was never written."""
-        unclear = {Verdict.LOST, Verdict.UNREADABLE, Verdict.STALE}
-        records = self.ledger.records
-        lines = [
-            Case(it, records[it.write.key], course).line()
-            for it in self.judged
-            if it.verdict in unclear
-        ]
-        writes = self.history.writes
-        return lines + [wrong_line(it, writes.get(it.key), self.names) for it in self.wrong]
+        writes, records, names = self.history.writes, self.ledger.records, self.names
+        is_fresh, lines = "fresh" in self.hooks.names, lines_of(self.words.out / "history.jsonl")
+        losses, heals = self.ledger.losses, self.ledger.heals
+        course = Course(names, self.orders, losses, heals, left, is_fresh, [*lines])
+
+        def record(it: Mapping[str, Any]) -> Record:  # a register that was written once is one too
+            known = Record(it["value"], round(it["at"] / 1e9, 3), it["entry"], ())
+            return records.get(it["key"], known)
+
+        cases = (
+            Case(it, writes[it["key"]][0].began, record(it), course) for it in self.judged.lines
+        )
+        others = unwritten(records.keys(), writes, self.history.reads)
+        told = [unwritten_line(it, it.key in writes, names) for it in others]
+        return [case.line() for case in cases] + told

@@ -1,8 +1,9 @@
 """What a run comes to, in lines for people, and as the status of the tool."""
-from collections.abc import Mapping, Sequence
+from collections.abc import Iterator, Mapping, Sequence
 from dataclasses import dataclass, field
 
-from . import HOOK, LOST, NONE_LOST, STALE, UNREADABLE, WRONG
+from . import HOOK, LOST, MISSING, NONE_LOST, NOT_LINEARIZABLE, STALE, UNREADABLE, WRONG
+from .verdicts import Judged, Linear, Verdict
 
 FEW = 100  # acknowledged writes: with fewer a run says little
 MILD = "tested little: unguarded, and nothing was lost: --plan attrition destroys more"
@@ -50,22 +51,38 @@ def failures(amount: Amount) -> str:
     return f"{text}; `write` said most often, {count} times: {said}" if said else text
 
 
-def closing(acked: int, counts: Mapping[str, int]) -> str:
+def closing(judged: Judged) -> str:
     """How many records there are of each verdict."""
-    order = ("kept", "lost", "stale", "unreadable", "wrong")
-    return f"{acked} acknowledged: " + ", ".join(f"{counts[name]} {name}" for name in order)
+    counts = ", ".join(f"{judged[it]} {it}" for it in Verdict)
+    return f"{judged['acknowledged']} acknowledged: {counts}"
 
 
-def status(counts: Mapping[str, int], is_fresh: bool, is_unread: bool) -> int:
+def besides(judged: Judged) -> Iterator[str]:
+    """What else was counted, if it was."""
+    texts = {
+        "unwritten": "keys were read with a value that nobody wrote there",
+        "gone": "records that weren't acknowledged were read, and are lost",
+        "refused": "writes that `write` said no to were done",
+        "recovered": "writes that weren't acknowledged were done",
+        "twice": "keys were told twice by `read`",
+    }
+    yield from (f"{judged[name]} {text}" for name, text in texts.items() if judged[name])
+    if seconds := judged.counts.get("staleness"):
+        parts = ", ".join(f"{it / 1e9:.3f}" for it in seconds)
+        yield f"stale for {parts} s: the least, half, 95 and 99 of 100, the most"
+
+
+def status(judged: Judged, linear: Linear, is_fresh: bool, is_unread: bool) -> int:
     """How the tool ends after a run that went on to its end.
 
     `is_fresh`: the store promises that no answer lags. `is_unread`: the hook `read` hung.
     """
-    unsettled = HOOK if is_unread else UNREADABLE
     findings = (
-        (counts["lost"], LOST),
-        (counts["wrong"], WRONG),
-        (counts["unreadable"], unsettled),
-        (is_fresh and counts["stale"], STALE),
+        (judged["lost"], LOST),
+        (judged["wrong"] + judged["unwritten"], WRONG),
+        (judged["missing"], MISSING),
+        (linear.keys, NOT_LINEARIZABLE),
+        (judged["unreadable"], HOOK if is_unread else UNREADABLE),
+        (is_fresh and judged["stale"], STALE),
     )
     return next((status for count, status in findings if count), NONE_LOST)

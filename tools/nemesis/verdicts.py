@@ -1,117 +1,99 @@
-"""What became of each acknowledged record, by what the store and its disks told."""
-from collections.abc import Iterable, Mapping, Set
+"""What became of each acknowledged record: the program judges the history, by the audit."""
+
+import json
+import subprocess
+from collections.abc import Mapping, Sequence
 from dataclasses import dataclass, field
 from enum import StrEnum
+from pathlib import Path
+from typing import Any
 
-from .history import PREFIX, Operation
+from faultyard.programs import find_program
 
-Found = Mapping[str, str | None]  # by key; None where a read that was answered lacks it
-Disk = Mapping[str, str] | None  # what the folder of a process has, if that is known
-MORE = "?"  # the key by which a disk says that it may have more, which couldn't be read
+from . import TOOL, Fault
+
+NOT_LEGAL = 5  # the status for an audit that isn't
 
 
 class Verdict(StrEnum):
-    """What became of a record; the first that applies."""
+    """What became of a record; docs/FORMATS.md says which applies."""
 
-    LOST = "lost"  # a read at the end was answered and lacks it, or all disks lack it
-    WRONG = "wrong"  # a read told another value than was written
-    UNREADABLE = "unreadable"  # no read at the end was answered, and the disks don't settle it
-    STALE = "stale"  # a read that began after its acknowledgement lacked it, and a later one had it
     KEPT = "kept"
-
-
-@dataclass(frozen=True)
-class Left:
-    """What was found at the end of a run."""
-
-    read: Mapping[str, str] | None = None  # what `read` told, if it was answered
-    checked: Mapping[int, Found] = field(default_factory=dict)
-    """What each process that is up and whole told last, by its number."""
-    disks: Mapping[int, Disk] = field(default_factory=dict)
-    """What the folder of each process has, by its number, if that was asked for."""
-    traces: Mapping[int, Set[str]] = field(default_factory=dict)
-    """The keys of which something stands in the files of a process whose disk isn't all known."""
-
-    def told(self, key: str) -> list[str | None]:
-        """What reads at the end told of a record."""
-        read = [] if self.read is None else [self.read.get(key)]
-        return read + [found[key] for found in self.checked.values() if key in found]
-
-    def is_told(self, number: int) -> bool:
-        """Whether all that a process's folder has was told."""
-        disk = self.disks.get(number)
-        return disk is not None and MORE not in disk
-
-    def is_off_disk(self, number: int, key: str, value: str) -> bool:
-        """Whether a process's folder is known not to have it."""
-        if (self.disks.get(number) or {}).get(key) == value:
-            return False
-        traces = self.traces.get(number)
-        return self.is_told(number) or (traces is not None and key not in traces)
-
-    def is_off_all_disks(self, key: str, value: str) -> bool:
-        """Whether each process's folder is known not to have it."""
-        return bool(self.disks) and all(self.is_off_disk(n, key, value) for n in self.disks)
-
-    def on_disk_of(self, key: str, value: str) -> list[int]:
-        """The processes whose folders are known to have it."""
-        return sorted(n for n, disk in self.disks.items() if disk and disk.get(key) == value)
+    LOST = "lost"
+    MISSING = "missing"
+    STALE = "stale"
+    UNREADABLE = "unreadable"
+    WRONG = "wrong"
 
 
 @dataclass(frozen=True)
 class Judged:
-    """A record that was acknowledged, and what became of it."""
+    """What `faultyard verdict` said."""
 
-    write: Operation
-    verdict: Verdict
-    lacking: Operation | None = None  # the last read that lacked it, though it was acknowledged
+    lines: Sequence[Mapping[str, Any]] = ()
+    """One of each acknowledged record that isn't kept."""
+    counts: Mapping[str, Any] = field(default_factory=dict)
+
+    def __getitem__(self, name: str) -> int:
+        """A count."""
+        return int(self.counts.get(name, 0))
+
+    def keys(self, verdict: Verdict) -> list[str]:
+        """The keys of the records with a verdict."""
+        return [line["key"] for line in self.lines if line["verdict"] == verdict]
 
     @property
-    def stale(self) -> float:
-        """Seconds from the acknowledgement to that read."""
-        return (self.lacking.began - self.write.ended) / 1e9 if self.lacking else 0.0
+    def is_unclear(self) -> bool:
+        """Whether disks may say more of a record."""
+        return any(self[it] for it in (Verdict.LOST, Verdict.MISSING, Verdict.UNREADABLE))
 
 
-def lacking(write: Operation, reads: Iterable[Operation]) -> Operation | None:
-    """The last read of a record that began after its acknowledgement, and lacked it."""
-    late = [read for read in reads if read.began > write.ended and read.value is None]
-    return max(late, key=lambda read: read.began) if late else None
+@dataclass(frozen=True)
+class Linear:
+    """What `faultyard linear` said."""
+
+    lines: Sequence[Mapping[str, Any]] = ()
+    """One of each key whose operations aren't those of a register."""
+    counts: Mapping[str, int] = field(default_factory=dict)
+
+    @property
+    def keys(self) -> list[str]:
+        """The keys that aren't linearizable."""
+        return [line["key"] for line in self.lines]
+
+    def told(self, shown: int) -> list[str]:
+        """It in words, if it was asked."""
+        if not self.counts:
+            return []
+        keys, operations = self.counts["keys"], self.counts["operations"]
+        text = f"{len(self.lines)} of {keys} keys aren't linearizable, in {operations} operations"
+        some = ", ".join(self.keys[:shown]) + (" .." if len(self.lines) > shown else "")
+        return [f"{text}: {some}, in linear.jsonl" if self.lines else text]
 
 
-def verdict(write: Operation, reads: Iterable[Operation], left: Left) -> Judged:
-    """What became of a record; `reads` are the answered ones of its key."""
-    reads, key, value = list(reads), write.key, write.value or ""
-    told, late = left.told(key), lacking(write, reads)
-    is_held = value in told or bool(left.on_disk_of(key, value))
-    if None in told or not is_held and left.is_off_all_disks(key, value):
-        return Judged(write, Verdict.LOST, late)
-    if any(read.value not in (None, value) for read in reads):
-        return Judged(write, Verdict.WRONG, late)
-    if not is_held:
-        return Judged(write, Verdict.UNREADABLE)
-    return Judged(write, Verdict.STALE if late else Verdict.KEPT, late)
+def judged(config: Path, folder: Path) -> Judged:
+    """Has the history of a run judged, and keeps what is said of it."""
+    if found := told("verdict", folder, config, "--audit", folder / "audit"):
+        return Judged(found[:-1], found[-1])
+    return Judged()
 
 
-def judged(
-    acked: Iterable[str], writes: Mapping[str, Operation], reads: Iterable[Operation], left: Left
-) -> list[Judged]:
-    """What became of each acknowledged record, by what was read of it."""
-    by_key: dict[str, list[Operation]] = {}
-    for read in reads:
-        by_key.setdefault(read.key, []).append(read)
-    return [verdict(writes[key], by_key.get(key, []), left) for key in acked]
+def linear(folder: Path) -> Linear:
+    """Has the registers of a run judged, and keeps what is said of them."""
+    *lines, counts = told("linear", folder)
+    return Linear(lines, counts)
 
 
-def wrong(writes: Mapping[str, Operation], reads: Iterable[Operation]) -> list[Operation]:
-    """The first read of each key that told a value which was never written for it.
-
-    A write without an acknowledgement may have been done, so its value isn't wrong. A key that the
-    tool never writes is the store's own, unless it looks like one of the tool's.
-    """
-    found: dict[str, Operation] = {}
-    for read in reads:
-        write = writes.get(read.key)
-        is_ours = write is not None or read.key.startswith(PREFIX)
-        if is_ours and read.value is not None and (write is None or read.value != write.value):
-            found.setdefault(read.key, read)
-    return list(found.values())
+def told(command: str, folder: Path, *words: Path | str) -> list[dict[str, Any]]:
+    """What a command says of a run's history, which is kept: lines, and then counts. Nothing where
+    the audit isn't legal."""
+    with (folder / "history.jsonl").open("rb") as history:
+        call = [find_program(), command, *map(str, words)]
+        ran = subprocess.run(call, stdin=history, capture_output=True, text=True, check=False)
+    if ran.returncode == NOT_LEGAL:
+        return []
+    if not ran.stdout:
+        why = ran.stderr.strip() or f"it ended with status {ran.returncode}"
+        raise Fault(TOOL, f"faultyard {command} of {folder}: {why}")
+    (folder / f"{command}.jsonl").write_text(ran.stdout)
+    return [json.loads(line) for line in ran.stdout.splitlines()]

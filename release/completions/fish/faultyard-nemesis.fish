@@ -21,6 +21,7 @@ complete -c faultyard-nemesis -l check-hooks -d "Call each hook on a calm cluste
 complete -c faultyard-nemesis -l writers -x -d "How many write hooks run"
 complete -c faultyard-nemesis -l readers -x -d "How many check hooks run"
 complete -c faultyard-nemesis -l edn -r -d "Print the history of a run as EDN"
+complete -c faultyard-nemesis -l registers -x -d "Write N keys again and again"
 complete -c faultyard-nemesis -l hook-timeout -x -d "How long a hook may take"
 complete -c faultyard-nemesis -l guard -r -F -d "Ask a faultyard-serve, by its socket or URL"
 complete -c faultyard-nemesis -l tokens -r -F -d "Tokens for that server"

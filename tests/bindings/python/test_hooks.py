@@ -53,6 +53,9 @@ def check(n, key):
         raise TimeoutError("it is silent")
     return {"a": "x"}.get(key)
 
+def get(key):
+    return check(2 if key == "silent" else 0, key)
+
 def helper(n):
     pass
 
@@ -174,7 +177,7 @@ class Dispatch(unittest.TestCase):
         return ran.returncode, ran.stdout, ran.stderr
 
     def test_the_names_of_hooks_are_printed_with_what_is_promised(self):
-        self.assertEqual(self.call("hooks"), (0, "start ready join write check read fresh\n", ""))
+        self.assertEqual(self.call("hooks"), (0, "start ready join write check get read fresh\n", ""))
 
     def test_a_hook_says_yes_or_no(self):
         self.assertEqual(self.call("ready", "2"), (0, "", ""))
@@ -269,6 +272,11 @@ class Dispatch(unittest.TestCase):
     def test_a_check_tells_a_value_none_and_a_process_that_was_not_asked(self):
         status, answers, _ = self.call("check", told="0 a\n0 b\n2 a\n0 a\n")
         self.assertEqual((status, answers), (0, "x\nnone\n?\nx\n"))
+
+    def test_a_get_tells_a_value_none_and_what_could_not_be_asked(self):
+        status, answers, said = self.call("get", told="a\nb\nsilent\na\n")
+        self.assertEqual((status, answers), (0, "x\nnone\n?\nx\n"))
+        self.assertEqual(said, "TimeoutError: it is silent\n")
 
 
 class Helpers(unittest.TestCase):
@@ -675,6 +683,18 @@ class ZooKeeperAnswers(unittest.TestCase):
         talk = [self.creates(number, *it) for number, it in enumerate(calls, 1)]
         with self.assertRaisesRegex(Refused, "/r/1 is there already"):
             Talk(self, [(SESSION, BEGUN), *talk]).client(ZooKeeper).add("/r/1", "v")
+
+    def test_a_node_that_is_there_is_put_otherwise(self):
+        asked = frame(struct.pack(">ii", 2, 5) + frame(b"/r/1") + frame(b"v") + b"\xff" * 4)
+        told = frame(struct.pack(">iqi", 2, 71, 0) + bytes(68))
+        talk = [(SESSION, BEGUN), self.creates(1, b"/r/1", (70, -110)), (asked, told)]
+        self.assertEqual(Talk(self, talk).client(ZooKeeper).put("/r/1", "v"), 71)
+        talk = [(SESSION, BEGUN), self.creates(1, b"/r/1", (72, 0))]
+        self.assertEqual(Talk(self, talk).client(ZooKeeper).put("/r/1", "v"), 72)
+        gone = frame(struct.pack(">iqi", 2, 73, -101))
+        talk = [(SESSION, BEGUN), self.creates(1, b"/r/1", (72, -101)), (asked, gone)]
+        talk += [self.creates(3, b"/r/1", (74, 0))]
+        self.assertEqual(Talk(self, talk).client(ZooKeeper).put("/r/1", "v"), 74)
 
     def test_records_are_the_values_below_a_path(self):
         children = frame(struct.pack(">ii", 1, 8) + frame(b"/r") + b"\0")

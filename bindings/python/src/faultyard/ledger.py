@@ -104,10 +104,16 @@ class Ledger:
 
     def acknowledge(self, write: int, key: str, value: str, mark: int) -> bool:
         """A write was acknowledged, with a number of the store that never falls: does it count?"""
-        if write <= self._late:
+        if not self.counts(write, mark):
             return False
         entry, able = self._guard.journal_len(), tuple(sorted(self.able))
         self.records[key] = Record(value, self.now(), entry, able)
+        return True
+
+    def counts(self, write: int, mark: int) -> bool:
+        """The same for a write of what is no record, as it is written again."""
+        if write <= self._late:
+            return False
         self.mark = max(self.mark, mark)
         return True
 

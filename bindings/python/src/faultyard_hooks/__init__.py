@@ -29,7 +29,7 @@ from typing import Any, Callable, Dict, Iterator, List, Optional, Tuple, Type, T
 Answer = TypeVar("Answer")
 MORE = {"?": "?"}  # among what `salvage` returns: there may be more, which it couldn't read
 _user: Dict[str, Any] = {}  # as whom commands run, if not as who runs the hook
-HOOKS = "setup start ready join leave elect pause resume whole write check read salvage".split()
+HOOKS = "setup start ready join leave elect pause resume whole write check get read salvage".split()
 HOOKS += "kill empty fetch power cut mend".split()
 # What stands in a module of its own.
 ELSEWHERE = {
@@ -131,8 +131,8 @@ def main(*promises: str, user: str = "", on: Any = None) -> None:
     """Calls the hook that the command line names: the function of this name in the hooks' file.
 
     `start` returns a command. `write` returns a mark, or nothing where the record's number is one.
-    `check` returns a value or None, and any other hook False for no, or what it prints. An OSError
-    says no too. `promises` are printed beside the names. Without a function `ready` a process is
+    `check` and `get` return a value or None, and any other hook False for no, or what it prints. An
+    OSError says no too. `promises` are printed beside the names. Without a function `ready` a process is
     ready once its first port takes a connection. Where hooks run as root, their commands run as
     `user`, who gets the folders of the processes: some stores refuse to run as root. `on` says
     where they run, as `Ssh("h0", "h1")` or the tool's `--on` does.
@@ -148,8 +148,8 @@ def main(*promises: str, user: str = "", on: Any = None) -> None:
         print(*hooks, *promises)
     elif name not in hooks:
         sys.exit(64)
-    elif name in ("write", "check"):
-        _answer_lines(_written if name == "write" else _checked, hooks[name])
+    elif name in LINES:
+        _answer_lines(LINES[name], hooks[name])
     else:
         try:
             if user and os.geteuid() == 0:
@@ -229,12 +229,20 @@ def _written(put: Callable[[str, str], Any], key: str, value: str) -> str:
     return f"ok {int(key[2:]) if mark in (None, True) else mark}"
 
 
-def _checked(get: Callable[[int, str], Optional[str]], number: str, key: str) -> str:
+def _checked(check: Callable[[int, str], Optional[str]], number: str, key: str) -> str:
+    return _got(lambda key: check(int(number), key), key)
+
+
+def _got(get: Callable[[str], Optional[str]], key: str) -> str:
     try:
-        return get(int(number), key) or "none"
+        return get(key) or "none"
     except noes() as fault:
         print(_in_words(fault), file=sys.stderr)
         return "?"
+
+
+# The hooks that answer lines, and how.
+LINES: Dict[str, Callable[..., str]] = {"write": _written, "check": _checked, "get": _got}
 
 
 def _in_words(fault: Exception) -> str:

@@ -10,7 +10,7 @@ from typing import Any, Dict, List, Optional
 from . import Refused, connection
 from .client import Client
 
-CREATE, GET, CHILDREN, SYNC, RECONFIG = 1, 4, 8, 9, 16
+CREATE, GET, SET, CHILDREN, SYNC, RECONFIG = 1, 4, 5, 8, 9, 16
 NO_NODE, NODE_EXISTS = -101, -110
 ANYONE = struct.pack(">ii", 1, 31)  # one entry of an access list: whatever is to be done
 AT_ONCE = 500  # questions that are sent before the first answer is read
@@ -36,6 +36,14 @@ class ZooKeeper(Client):
             if not self.create(path, value):
                 raise Refused(f"{path} is there already")
         return self.zxid
+
+    def put(self, path: str, value: str) -> int:
+        """Creates a node as `add` does, or sets it where it is there. Answers the transaction."""
+        if self.create(path, value):
+            return self.zxid
+        any_version = struct.pack(">i", -1)
+        (told,) = self.ask(SET, _text(path) + _text(value) + any_version)
+        return self.zxid if told else self.add(path, value)
 
     def records(self, path: str) -> Dict[str, str]:
         """The values of all nodes below a path, by their paths without the first slash."""
