@@ -2,7 +2,7 @@
 import asyncio
 from argparse import Namespace
 from collections import Counter
-from collections.abc import AsyncIterator, Mapping
+from collections.abc import AsyncIterator, Mapping, Set
 from contextlib import asynccontextmanager, suppress
 from dataclasses import replace
 from itertools import chain
@@ -221,15 +221,16 @@ class Run(Store):
 
     async def _looked_through(self, left: Left) -> Left:
         """With what stands in the files of those whose `salvage` gave nothing, if it would show."""
-        records, found = {key: it.value for key, it in self.ledger.records.items()}, {}
-        unknown = set(left.disks) - self.elsewhere.unfetched
-        unknown = sorted(number for number in unknown if not left.is_told(number))
+        written = {key: its[0].value or "" for key, its in self.history.writes.items()}
+        acked, found = self.ledger.records.keys(), dict[int, Set[str]]()
+        fetched = set(left.disks) - self.elsewhere.unfetched
+        unknown = sorted(number for number in fetched if not left.is_told(number))
         for number in unknown if "plain" in self.hooks.names else ():
             try:
                 folder = self.words.out / str(number)
-                keys = found[number] = await asyncio.to_thread(traces, folder, records)
+                keys = found[number] = await asyncio.to_thread(traces, folder, written)
                 self.history.looked_through(number, keys)
-                text = f"have something of {len(keys)} of {len(records)} records"
+                text = f"have something of {len(keys & acked)} of {len(acked)} records"
             except OSError as fault:
                 text = f"can't be read: {fault}"
             self.notes.append(f"the files of {self.names[number]} {text}")

@@ -1,7 +1,7 @@
 """How long the hooks of each store are, as docs/HOOKS.md has it.
 
 A line counts if it has code: no blank line, no comment and no text that only documents. What a
-guarded run needs is all but `check` and `salvage`, and what only these two use.
+guarded run needs is all but `check`, `get` and `salvage`, and what only these use.
 """
 
 from __future__ import annotations
@@ -14,8 +14,8 @@ from collections.abc import Iterator
 import tables
 from source import ROOT
 
-HOOKS = "setup start ready join leave elect pause resume whole write check read salvage".split()
-OPTIONAL = {"check", "salvage"}
+HOOKS = "setup start ready join leave elect pause resume whole write check get read salvage".split()
+OPTIONAL = {"check", "get", "salvage"}
 NO_CODE = {
     tokenize.COMMENT,
     tokenize.NL,
@@ -89,7 +89,7 @@ def stores() -> dict[str, tuple[int, int]]:
 
 
 def made() -> str:
-    heads = ("Store", "Lines that a guarded run needs", "All, with `check` and `salvage`")
+    heads = ("Store", "Lines that a guarded run needs", "All, with `check`, `get` and `salvage`")
     rows = [
         (f"[{name}](../examples/{name}/README.md)", str(few), str(every))
         for name, (few, every) in stores().items()
