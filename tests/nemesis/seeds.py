@@ -1,8 +1,9 @@
 """Verdicts on what a seed draws: a store with some fault or none, its hooks, and a plan.
 
-What became of each record is judged once more, by `expected`, from the history and by the definitions
-of docs/NEMESIS.md; the tool has to say the same. What the history says that processes answered, the
-store has to have noted itself. NEMESIS_SEEDS in the environment says how many seeds there are.
+What became of each record is judged once more, by `expected`, from the history and by the
+definitions of docs/NEMESIS.md; the tool has to say the same. What the history says that processes
+answered, the store has to have noted itself. NEMESIS_SEEDS in the environment says how many seeds
+there are.
 """
 
 import os

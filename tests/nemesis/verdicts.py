@@ -1,8 +1,8 @@
 """What becomes of each record, and whose fault it is said to be: verdicts, cases and their words.
 
-Runs of stores for each verdict, in virtual time, and verdicts that are written out by hand. Expected
-are the definitions of docs/NEMESIS.md. All that a test says of a verdict's words stands in this
-file.
+Runs of stores for each verdict, in virtual time, and verdicts that are written out by hand.
+Expected are the definitions of docs/NEMESIS.md. All that a test says of a verdict's words stands
+in this file.
 """
 
 import asyncio

@@ -177,7 +177,8 @@ class Dispatch(unittest.TestCase):
         return ran.returncode, ran.stdout, ran.stderr
 
     def test_the_names_of_hooks_are_printed_with_what_is_promised(self):
-        self.assertEqual(self.call("hooks"), (0, "start ready join write check get read fresh\n", ""))
+        told = "start ready join write check get read fresh\n"
+        self.assertEqual(self.call("hooks"), (0, told, ""))
 
     def test_a_hook_says_yes_or_no(self):
         self.assertEqual(self.call("ready", "2"), (0, "", ""))

@@ -132,10 +132,10 @@ def main(*promises: str, user: str = "", on: Any = None) -> None:
 
     `start` returns a command. `write` returns a mark, or nothing where the record's number is one.
     `check` and `get` return a value or None, and any other hook False for no, or what it prints. An
-    OSError says no too. `promises` are printed beside the names. Without a function `ready` a process is
-    ready once its first port takes a connection. Where hooks run as root, their commands run as
-    `user`, who gets the folders of the processes: some stores refuse to run as root. `on` says
-    where they run, as `Ssh("h0", "h1")` or the tool's `--on` does.
+    OSError says no too. `promises` are printed beside the names. Without a function `ready` a
+    process is ready once its first port takes a connection. Where hooks run as root, their commands
+    run as `user`, who gets the folders of the processes: some stores refuse to run as root. `on`
+    says where they run, as `Ssh("h0", "h1")` or the tool's `--on` does.
     """
     given = vars(sys.modules["__main__"])
     hooks = {name: given[name] for name in HOOKS if name in given}
