@@ -168,6 +168,7 @@ class Ssh:
         words = [
             *self.command,
             "-M",
+            "-T",
             "-N",
             "-T",
             "-S",
