@@ -162,16 +162,22 @@ class Kills(Case):
         given = self.given((30, "e1", "Reboot"))
         running = self.start("--seconds", 30, "--replay", given, *PATIENT)
         wait_until("the beginning", lambda: self.events("ready"))
-        for pattern in (rf"^ssh .*{self.room}.* h1 ", r"^sshd: root", r"^ssh .* -M "):
+        # A master that is gone isn't made again: all goes without it from then on.
+        for pattern in (r"^ssh .* -M ", rf"^ssh .*{self.room}.* h1 ", r"^sshd: root"):
             before = len(self.events("ended"))
             victims = those(pattern)
             self.assertTrue(victims, pattern)
             killed(victims)
             wait_until(f"the end of {pattern}", lambda: len(self.events("ended")) > before)
-            wait_until("all are up", lambda: len(self.events("ended")[-1]["up"]) >= 0)
-            time.sleep(2)
+            wait_until("all are up", self.all_are_up)
         told = self.ended(running, 0)
         self.assertRegex(told, r"\n([1-9]\d*) acknowledged: \d+ kept, 0 lost")
+
+    def all_are_up(self):
+        """By the last event."""
+        lines = (self.out / "events.jsonl").read_text().splitlines(keepends=True)
+        whole = [line for line in lines if line.endswith("\n")]
+        return len(json.loads(whole[-1])["up"]) == len(HOSTS)
 
     def test_a_host_hangs(self):
         """Its sshd is stopped: a kill waits, and is over once the host says so."""
