@@ -74,7 +74,10 @@ class Case(unittest.TestCase):
         words = [*TOOL, *ETCD, *ON, "--out", self.out, *words]
         pipe = subprocess.PIPE
         words = list(map(str, words))
-        return subprocess.Popen(words, stdout=pipe, stderr=pipe, text=True, cwd=self.room)
+        more = {"stdout": pipe, "stderr": pipe, "text": True, "cwd": self.room}
+        running = subprocess.Popen(words, **more)
+        self.addCleanup(running.kill)
+        return running
 
     def ended(self, running, status):
         told, said = running.communicate(timeout=SECONDS)
@@ -165,19 +168,11 @@ class Kills(Case):
         # A master that is gone isn't made again: all goes without it from then on.
         for pattern in (r"^ssh .* -M ", rf"^ssh .*{self.room}.* h1 ", r"^sshd: root"):
             before = len(self.events("ended"))
-            victims = those(pattern)
-            self.assertTrue(victims, pattern)
-            killed(victims)
+            wait_until(f"what is {pattern}", lambda: those(pattern))
+            killed(those(pattern))
             wait_until(f"the end of {pattern}", lambda: len(self.events("ended")) > before)
-            wait_until("all are up", self.all_are_up)
         told = self.ended(running, 0)
         self.assertRegex(told, r"\n([1-9]\d*) acknowledged: \d+ kept, 0 lost")
-
-    def all_are_up(self):
-        """By the last event."""
-        lines = (self.out / "events.jsonl").read_text().splitlines(keepends=True)
-        whole = [line for line in lines if line.endswith("\n")]
-        return len(json.loads(whole[-1])["up"]) == len(HOSTS)
 
     def test_a_host_hangs(self):
         """Its sshd is stopped: a kill waits, and is over once the host says so."""
