@@ -3,7 +3,8 @@
   else.
 
   In invoke!: (struck url node :RebootAndDelete) says what to do to the node. Put it into the
-  operation's value. Tell (up url number) once the node's process runs again."
+  operation's value. Tell (up url number) once the node's process runs again, and (heal url number)
+  once it has all records again: without that the guard lets no other one be emptied."
   (:import (java.io IOException)
            (java.net URI)
            (java.net.http HttpClient HttpRequest HttpRequest$BodyPublishers
@@ -47,3 +48,9 @@
   "Tells by actor 0 that the process with a number of the cluster file runs again."
   [url number]
   (act url (str "{\"by\":0,\"act\":{\"up\":{\"process\":" number "}}}")))
+
+(defn heal
+  "Tells by actor 0 that a process that was emptied has all records again. docs/GUARD.md says what
+  has to be asked of it first."
+  [url number]
+  (act url (str "{\"by\":0,\"act\":{\"heal\":{\"process\":" number "}}}")))

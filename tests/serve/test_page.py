@@ -8,7 +8,7 @@ import unittest.mock
 import browser
 import common
 from browser import Browser
-from common_serve import PATIENCE, ROOT, Case, kill, run
+from common_serve import PATIENCE, ROOT, Case, cluster, kill, run
 
 LIVE = "document.getElementById('live').textContent"
 ROWS = "document.getElementById('orders-body').rows.length"
@@ -22,7 +22,7 @@ class Page(Case):
         if lacks.returncode == 1:
             self.skipTest(lacks.stdout.strip())
         lacks.check_returncode()
-        browser.PATIENCE = PATIENCE
+        browser.PATIENCE = 5 * PATIENCE  # A browser takes long on a busy machine.
         self.browser = Browser(self.folder / "profile")
         self.addCleanup(self.browser.close)
         beat = unittest.mock.patch.dict(os.environ, FAULTYARD_SERVE_BEAT=str(BEAT))
@@ -61,7 +61,7 @@ class Page(Case):
     def test_another_audit_is_shown_alone(self):
         server = self.server().start()
         for process in range(3):
-            server.ask("POST", "/v1/acts", kill(process))
+            server.ask("POST", "/v1/acts", kill(process, "RebootProcess"))
         tab = self.browser.tab()
         tab.open(f"http://{server.address}/")
         tab.wait(f"{LIVE} === 'live, 3 entries' && {ROWS} === 3")
@@ -72,6 +72,7 @@ class Page(Case):
         for process in range(4):
             server.ask("POST", "/v1/acts", kill(process))
         tab.wait(f"{LIVE} === 'live, 4 entries' && {ROWS} === 4")
+        tab.wait("!document.getElementById('orders').innerText.includes('RebootProcess')")
 
     def test_a_token_may_have_any_letters(self):
         right, path = "sechzehn-und-ein-\u20ac", common.written(self.folder, "tokens", "")
@@ -87,9 +88,17 @@ class Page(Case):
             tab.waits_for(shown)
 
     def test_a_narrow_page_shows_the_state_of_each_process(self):
-        server = self.server().start()
+        """Also where names are long, and in a browser without shared workers."""
+        config = cluster()
+        for key in ("processid", "machineid", "zoneid"):
+            config = config.replace(f'{key}="', f'{key}="a_name_with_many_letters_')
+        server = self.server(config=config).start()
         tab = self.browser.tab()
+        tab.ask("Page.enable")
+        without = "delete window.SharedWorker"
+        tab.ask("Page.addScriptToEvaluateOnNewDocument", source=without)
         tab.open(f"http://{server.address}/", width=390)
+        tab.waits_for("live, 0 entries")
         tab.waits_for("6 up")
         cells = "[...document.querySelectorAll('#processes .state')]"
         ends = tab.value(f"Math.max(...{cells}.map((it) => it.getBoundingClientRect().right))")

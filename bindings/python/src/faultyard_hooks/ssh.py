@@ -23,8 +23,8 @@ LONGEST = 80  # characters of a path at which a socket may stand
 MASTER = 8.0  # seconds until a host is asked without a master
 SECONDS = 50.0  # for which a host may work on one question
 
-# What a host is asked. $1 is the folder of a process, by which all is marked that runs there for it:
-# by FY_HELD the process with all that it has started, by FY_HOLDS also the shell that holds it.
+# What a host is asked. $1 is the folder of a process, which marks all that runs there for it: by
+# FY_HELD the process with all that it has started, by FY_HOLDS also the shell that holds it.
 HEAD = """
 folder=$1
 marked() {
@@ -33,8 +33,8 @@ marked() {
 held() {  # also what has cleared its environment, in the namespace of one that hasn't
     own=$(readlink /proc/self/ns/pid)
     marked FY_HELD
-    for it in $(marked FY_HELD); do readlink "/proc/$it/ns/pid"; done | grep -vxF "$own" | sort -u \\
-        | tr '[]' '??' | while read -r space; do
+    for it in $(marked FY_HELD); do readlink "/proc/$it/ns/pid"; done | grep -vxF "$own" \\
+        | sort -u | tr '[]' '??' | while read -r space; do
             find /proc/[0-9]*/ns/pid -maxdepth 0 -lname "$space" 2> /dev/null | cut -d/ -f3
         done
 }
@@ -168,6 +168,7 @@ class Ssh:
         words = [
             *self.command,
             "-M",
+            "-T",
             "-N",
             "-T",
             "-S",

@@ -15,13 +15,13 @@ type actorKey struct{}
 // mayEnter asks for a token. Without a file of tokens only this machine gets here, and no request
 // of a stranger, which a proxy or a browser of this machine may hand on.
 func (web *Web) mayEnter(writer http.ResponseWriter, request *http.Request) bool {
-	writer.Header().Set("Faultyard-Audit", web.Book.ID())
 	if web.Tokens == nil {
-		why := stranger(request)
-		if why != "" {
+		if why := stranger(request); why != "" {
 			fail(writer, http.StatusForbidden, why)
+			return false
 		}
-		return why == ""
+		writer.Header().Set("Faultyard-Audit", web.Book.ID())
+		return true
 	}
 	actor, known := web.Tokens.actorOf(request)
 	if !known {
@@ -29,6 +29,7 @@ func (web *Web) mayEnter(writer http.ResponseWriter, request *http.Request) bool
 		fail(writer, http.StatusUnauthorized, "the request has no token that is known")
 		return false
 	}
+	writer.Header().Set("Faultyard-Audit", web.Book.ID())
 	*request = *request.WithContext(context.WithValue(request.Context(), actorKey{}, actor))
 	return true
 }
