@@ -175,20 +175,20 @@ class Kills(Case):
     def test_a_start_on_another_machine_outlives_a_kill_here(self):
         """`ssh HOST` put before the command in `start`, and no hook `kill`."""
         given = self.given((0.5, "p1", "Reboot"))
-        words = ("--seconds", 20, "--replay", given, "--hook-timeout", 1)
+        words = ("--seconds", 20, "--replay", given, "--hook-timeout", 5)
         told = self.run_tool(*words, names=self.NEEDED, status=3)
-        says = "`ready 1` went on to say yes for 1 seconds after a kill: `start 1` runs it where"
+        says = "`ready 1` went on to say yes for 5 seconds after a kill: `start 1` runs it where"
         self.assertIn(says, told)
         self.out = self.room / "checked"
         for number in self.machine.running:
             self.machine.kill(number)
         shutil.rmtree(self.machine.far)  # else its servers have what the last run wrote
-        words = ("--check-hooks", "--hook-timeout", 1)
+        words = ("--check-hooks", "--hook-timeout", 5)
         self.assertIn("`ready 0` went on", self.run_tool(*words, names=self.NEEDED, status=3))
 
     def test_a_kill_that_says_yes_and_kills_nothing(self):
         given = self.given((0.5, "p1", "Reboot"))
-        words = ("--seconds", 20, "--replay", given, "--hook-timeout", 1)
+        words = ("--seconds", 20, "--replay", given, "--hook-timeout", 5)
         cases = f"kill) exit 0;; ready) exec {shlex.join(STORE)} ready $2;;"
         told = self.run_tool(*words, cases=cases, status=3)
         self.assertIn("after `kill 1` had said yes: one of them is wrong", told)
@@ -220,16 +220,16 @@ class Kills(Case):
     def test_a_kill_that_never_says_yes(self):
         self.machine.noes["kill"] = 10**6
         given = self.given((0.5, "p1", "Reboot"))
-        words = ("--seconds", 9, "--replay", given, "--hook-timeout", 3)
+        words = ("--seconds", 9, "--replay", given, "--hook-timeout", 5)
         told = self.run_tool(*words, status=3)
         self.assertIn("kill 1 ended with status 1", told)
-        self.assertIn("it was asked for 18 seconds, and may be done or not", told)
+        self.assertIn("it was asked for 30 seconds, and may be done or not", told)
         self.assertIn("p0 may still run where it is: kill 0 ended with status 1", told)
 
     def test_emptied_when_it_is_struck(self):
         """Without a quorum no turn to join comes, and all have to have been emptied by then."""
         orders = [(1 + n / 2, f"p{n}", "RebootAndDelete") for n in range(3)]
-        words = ("--seconds", 4, "--unguarded", "--hook-timeout", 1)
+        words = ("--seconds", 4, "--unguarded", "--hook-timeout", 5)
         cases = "join) exit 1;;"
         names = f"{self.ALL} join"
         given = self.given(*orders)
@@ -243,7 +243,7 @@ class Kills(Case):
     def test_what_was_not_emptied_there_is_not_called_lost(self):
         """Without a hook `empty` its files may be left where it was: they are asked for."""
         orders = [(1 + n / 2, f"p{n}", "RebootAndDelete") for n in range(3)]
-        words = ("--seconds", 4, "--unguarded", "--hook-timeout", 1)
+        words = ("--seconds", 4, "--unguarded", "--hook-timeout", 5)
         names = f"{self.NEEDED} kill pause resume fetch salvage join"
         given = self.given(*orders)
         self.env["STORE_FAULT"] = "quorum"  # `read` says no without one
@@ -253,7 +253,7 @@ class Kills(Case):
 
     def test_files_that_cannot_be_fetched_are_unknown(self):
         cases = "read) exit 1;; fetch) [ $2 != 0 ] || exec $RSH fetch $2; exit 1;;"
-        words = ("--seconds", 2, "--replay", self.given(), "--hook-timeout", 2)
+        words = ("--seconds", 2, "--replay", self.given(), "--hook-timeout", 5)
         more = {"names": f"{self.ALL} plain", "cases": cases}
         told = self.run_tool(*words, status=6, **more)
         self.assertIn("the disk of p1 is unknown: fetch 1 ended with status 1", told)
