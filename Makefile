@@ -96,6 +96,12 @@ site:
 swarm-seeds: build
 	tests/swarm/run bin/faultyard --seeds 200
 
+## holds `linear` against a search through all orders on a million histories, and `verdict` against
+## a model of its rules on ten thousand
+try-histories: build
+	tests/linear/run bin/faultyard --histories 1000000
+	tests/verdict/run bin/faultyard --histories 10000
+
 ## makes each allocation fail once, one run each, in short tests of each command, act and check
 refused-memory:
 	tests/refused-memory/run faultyard/short:: fy_tests/a_buffer_keeps \
@@ -212,6 +218,8 @@ bench: build lib
 	bench/swarm.py bin/faultyard $(BESIDE)
 	bench/simulate.py bin/faultyard
 	bench/guard.py bin/faultyard
+	bench/histories.py bin/faultyard
+	-bench/histories.py --growth bin/faultyard
 	-bench/growth --all --states 1000 bin/faultyard
 	-if [ -n "$(BESIDE)" ]; then bench/growth --all --beside $(BESIDE) bin/faultyard; fi
 	bench/verdicts.sh
