@@ -184,7 +184,7 @@ class Author:
         return self.chance.choice(begun)
 
     def answer_entry(self) -> None:
-        number = self.entry + self.chance.choice((0, 0, 1, 5))
+        number = self.entry + self.chance.choice((0, 0, 1, 3))
         if number >= len(self.audit.acts):
             return
         self.entry = number + 1
@@ -202,9 +202,9 @@ class Author:
         self.wait(longest)
         key = self.chance.choice(self.keys)
         drawn = self.chance.random()
-        if drawn < 0.35:
+        if drawn < 0.3:
             self.begin_write(key)
-        elif drawn < 0.45:
+        elif drawn < 0.5:
             self.begin_read(key, self.any_node())
         elif drawn < 0.85:
             self.end_any()
@@ -218,9 +218,9 @@ class Author:
                 if self.chance.random() < 0.8:
                     self.begin_read(key, node)
                 while self.running and self.chance.random() < 0.6:
+                    if self.chance.random() < 0.4:
+                        self.answer_entry()
                     self.end_any()
-        if self.chance.random() < 0.2:
-            self.answer_entry()
 
     def tell_disks(self) -> None:
         """Says of each process, or of some, what its disk has."""
@@ -242,6 +242,8 @@ class Author:
 
     def begin_keys(self) -> None:
         chance = self.chance
+        # A store that mostly keeps its records shows what is worse hidden otherwise.
+        is_good = chance.random() < 0.5
         for name in chance.sample(NAMES, chance.randint(2, 6)):
             values = chance.sample(NAMES, chance.choice((0, 1, 1, 1, 1, 1, 1, 1, 2)))
             nodes = range(len(self.cluster.processes))
@@ -250,10 +252,10 @@ class Author:
                     name,
                     values,
                     list(values),
-                    lacks=chance.choice((0, 0, 0, 0.2)),
-                    lacks_at_end=chance.choice((0, 0, 0.2, 0.9, 1)),
-                    wrong=chance.choice((0, 0, 0, 0, 0, 0, 0.15)),
-                    answers_at_end=chance.random() < 0.8,
+                    lacks=chance.choice((0, 0, 0.3, 0.6)),
+                    lacks_at_end=0 if is_good else chance.choice((0, 0, 0.2, 0.9, 1)),
+                    wrong=0 if is_good else chance.choice((0, 0, 0, 0.15)),
+                    answers_at_end=is_good or chance.random() < 0.8,
                     lackers=set(chance.sample(nodes, chance.choice((0, 0, 1, 1, 2)))),
                 )
             )
@@ -270,8 +272,13 @@ class Author:
             self.is_written = True
             self.add(f="written")
             nodes = range(len(self.cluster.processes))
-            self.asked = [*chance.sample(nodes, 2), *[None] * chance.randint(0, 1)]
-            for _ in range(chance.randint(0, 3)):
+            # One that is destroyed or healed later, if there is one.
+            later = self.audit.destroyed[self.entry :]
+            turning = [p for p in nodes if 0 < sum(p in it for it in later) < len(later)]
+            self.asked = [chance.choice(turning or nodes), chance.choice(nodes)]
+            self.asked += [None] * chance.randint(0, 1)
+            chance.shuffle(self.asked)
+            for _ in range(chance.choice((0, 1, 2, 2, 3, 3))):
                 self.round()
                 self.time += chance.choice((SECOND, MINUTE - 1, MINUTE, MINUTE, MINUTE + 1))
                 if chance.random() < 0.3:
