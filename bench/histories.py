@@ -8,7 +8,8 @@ processes and whole reads at the end, with disks. That of `linear` has so many o
 and reads of 1,000 keys by 64 clients, which answer as registers do. A row of the table is the best
 of N runs (3 if left out): seconds of processor time, and the most memory that the system gave the
 program, of which up to some 30 MB are this script's own, from before the program was started in
-its place. The goals stand behind the rows of a million: 3 s and 300 MB of `verdict`, 5 s of `linear`.
+its place. The goals stand behind the rows of a million: 3 s and 300 MB of `verdict`, and 5 s of
+`linear`.
 
 With --growth it counts instructions of both, below valgrind's callgrind, with 1,000 and with 8,000
 and in place of the table says how many times as many those are. Where a cost is n log n, they are
