@@ -8,7 +8,8 @@ processes and whole reads at the end, with disks. That of `linear` has so many o
 and reads of 1,000 keys by 64 clients, which answer as registers do. A row of the table is the best
 of N runs (3 if left out): seconds of processor time, and the most memory that the system gave the
 program, of which up to some 30 MB are this script's own, from before the program was started in
-its place. The goals stand behind the rows of a million: 3 s and 300 MB of `verdict`, 5 s of `linear`.
+its place. The goals stand behind the rows of a million: 3 s and 300 MB of `verdict`, and 5 s of
+`linear`.
 
 With --growth it counts instructions of both, below valgrind's callgrind, with 1,000 and with 8,000
 and in place of the table says how many times as many those are. Where a cost is n log n, they are
@@ -128,18 +129,16 @@ class Job:
     words: list[str]
     history: Path
 
-    def run(self, before: list[str]) -> tuple[float, float, str]:
-        """Seconds of processor time, MB, and the counts, which are the last line."""
-        with self.history.open("rb") as given, tempfile.TemporaryFile() as out:
-            child = subprocess.Popen([*before, *self.words], stdin=given, stdout=out)
+    def run(self) -> tuple[float, float]:
+        """Seconds of processor time, and MB."""
+        with self.history.open("rb") as given:
+            child = subprocess.Popen(self.words, stdin=given, stdout=subprocess.DEVNULL)
             _, status, used = os.wait4(child.pid, 0)
             child.returncode = os.waitstatus_to_exitcode(status)
-            out.seek(0)
-            text = out.read().decode()
         # Status 6: some are unreadable.
         if child.returncode not in (0, 6):
             sys.exit(f"bench/histories.py: {self.command}: status {child.returncode}")
-        return used.ru_utime + used.ru_stime, used.ru_maxrss / 1000, text.splitlines()[-1]
+        return used.ru_utime + used.ru_stime, used.ru_maxrss * 1024 / 1e6
 
 
 def jobs(program: str, room: Path, count: int) -> list[Job]:
@@ -159,7 +158,7 @@ def table(program: str, room: Path, rounds: int, most: int) -> None:
     print(f"{'command':<8} {'count':>9} {'seconds':>8} {'µs each':>8} {'MB':>7}  goal")
     for count in (it for it in COUNTS if it <= most):
         for job in jobs(program, room, count):
-            runs = [job.run([]) for _ in range(rounds)]
+            runs = [job.run() for _ in range(rounds)]
             seconds, memory = min(it[0] for it in runs), max(it[1] for it in runs)
             goal = ""
             if count == COUNTS[-1]:
@@ -174,10 +173,14 @@ def table(program: str, room: Path, rounds: int, most: int) -> None:
 
 
 def instructions(job: Job, room: Path) -> int:
-    out = room / "callgrind"
-    job.run(["valgrind", "--tool=callgrind", "-q", f"--callgrind-out-file={out}"])
-    found = re.search(r"^(?:summary|totals): (\d+)", out.read_text(), re.MULTILINE)
-    assert found, "callgrind gives no sum"
+    before = ["valgrind", "--tool=callgrind", f"--callgrind-out-file={room / 'callgrind'}"]
+    with job.history.open("rb") as given:
+        ran = subprocess.run(
+            [*before, *job.words], stdin=given, stdout=subprocess.DEVNULL, stderr=subprocess.PIPE
+        )
+    found = re.search(rb"Collected : (\d+)", ran.stderr)
+    if found is None:
+        sys.exit(f"bench/histories.py: callgrind collects nothing: {ran.stderr.decode()}")
     return int(found[1])
 
 
