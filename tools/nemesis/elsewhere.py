@@ -4,7 +4,7 @@ import subprocess
 from argparse import Namespace
 from asyncio.subprocess import Process
 from collections import Counter
-from collections.abc import AsyncIterator, Collection, Iterable, Sequence
+from collections.abc import AsyncIterator, Awaitable, Collection, Iterable, Sequence
 from contextlib import asynccontextmanager, suppress
 
 from faultyard import ClusterFile, FaultyardError, Kind
@@ -227,9 +227,9 @@ class Partitions:
             await all_of(self._where.done("cut", *pair) for pair in sorted(after - before))
 
 
-async def all_of(deeds: Iterable[asyncio.Future[None] | object]) -> None:
+async def all_of(deeds: Iterable[Awaitable[None]]) -> None:
     """Does all at once; the first fault, once all have ended."""
-    ends = await asyncio.gather(*deeds, return_exceptions=True)  # type: ignore[call-overload]
+    ends = await asyncio.gather(*deeds, return_exceptions=True)
     for fault in ends:
         if isinstance(fault, BaseException):
             raise fault

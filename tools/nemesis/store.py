@@ -17,9 +17,10 @@ from faultyard.harness import Harness
 from faultyard.plans import Order
 
 from . import HOOK, USAGE, Fault, alone, clock, clock_ns, say
+from .alone import OWN
 from .crashes import Crashes, end_of_log, in_words
 from .disks import Cut, disks_of
-from .elsewhere import OWN, Elsewhere, Life, Partitions, refused
+from .elsewhere import Elsewhere, Life, Partitions, refused
 from .hooks import End, Hooks
 from .machine import Machine
 from .net import Net
@@ -291,6 +292,7 @@ class Store(Harness):
                     while await life.goes_on(process.returncode, number in self.up):
                         await self._ask_after(number, process)
                         await asyncio.sleep(AGAIN)
+            assert process.returncode is not None  # or it would go on
             self._end_by_itself(number, process.returncode, begin)
             await asyncio.sleep(self.crashes[number].pause())
 

@@ -195,7 +195,9 @@ class Ssh:
         try:
             more = more or {"stdin": subprocess.DEVNULL}
             command = self.words(n, script, *words)
-            ran = subprocess.run(command, stdout=subprocess.PIPE, timeout=SECONDS, **more)
+            ran: subprocess.CompletedProcess[bytes] = subprocess.run(
+                command, stdout=subprocess.PIPE, timeout=SECONDS, **more
+            )
         except subprocess.TimeoutExpired:
             raise Refused(f"{self.hosts[n]} took over {SECONDS:g} seconds") from None
         if ran.returncode:
