@@ -214,7 +214,7 @@ class Kills(Case):
         self.assertEqual((orders[0]["targets"], self.machine.noes["kill"]), ([0], 0))
         self.assertGreaterEqual(killed - order, 20 * 0.1)
         lines = map(json.loads, (self.out / "history.jsonl").read_text().splitlines())
-        ends = [it["time"] / 1e9 for it in lines if it["type"] == "ok" and it["f"] == "write"]
+        ends = [it["time"] / 1e9 for it in lines if it["f"] == "write" and it["type"] == "ok"]
         self.assertTrue(any(order < end < killed for end in ends))
 
     def test_a_kill_that_never_says_yes(self):
@@ -257,7 +257,7 @@ class Kills(Case):
         more = {"names": f"{self.ALL} plain", "cases": cases}
         told = self.run_tool(*words, status=6, **more)
         self.assertIn("the disk of p1 is unknown: fetch 1 ended with status 1", told)
-        self.assertRegex(told, r" 0 lost, 0 stale, [1-9]\d* unreadable")
+        self.assertRegex(told, r" 0 lost, 0 missing, 0 stale, [1-9]\d* unreadable")
         self.assertNotIn("the files of p1", told)
 
     def test_a_start_that_returns_at_once(self):
