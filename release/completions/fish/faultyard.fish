@@ -28,8 +28,8 @@ complete -c faultyard -n "not __fish_seen_subcommand_from $commands" -a linear \
     -d "Says which keys of a history aren't linearizable registers"
 complete -c faultyard -n "not __fish_seen_subcommand_from $commands" -a help \
     -d "Print this message or the help of the given subcommand(s)"
-complete -c faultyard -n "__fish_seen_subcommand_from run check swarm simulate guard show bears verdict" \
-    -k -a "(__fish_complete_suffix .toml)"
+complete -c faultyard -k -a "(__fish_complete_suffix .toml)" \
+    -n "__fish_seen_subcommand_from run check swarm simulate guard show bears verdict"
 complete -c faultyard -n "__fish_seen_subcommand_from swarm simulate" -l seed -x \
     -d "What the plans of the actors are drawn from, from 0 to 2^64 - 1"
 complete -c faultyard -n "__fish_seen_subcommand_from simulate" -l acts -x \
