@@ -32,7 +32,7 @@ def played(words, before=""):
     text = (
         f"import os, resource, signal, faultyard.pipe\n{before}guard = faultyard.Guard({words})\n"
     )
-    return lambda acts: subprocess.run([sys.executable, "-c", text + acts], timeout=60).returncode
+    return lambda acts: subprocess.run([sys.executable, "-c", text + acts]).returncode
 
 
 class FolderTest(common.Folder, unittest.TestCase):
@@ -121,7 +121,7 @@ class FolderTest(common.Folder, unittest.TestCase):
         text = (common.HEADER + TICKS[0] + TICKS[1][:-1]).encode()
         self.audit.write_bytes(text)
         command = [common.PROGRAM, "guard", common.SIX, "--after", self.audit]
-        told = subprocess.run(command, input=b"", capture_output=True, timeout=60)
+        told = subprocess.run(command, input=b"", capture_output=True)
         fault, whole = told.stderr.decode().splitlines()
         self.assertEqual((told.returncode, fault), (1, "audit: line 3: Syntax"))
         with self.assertRaises(faultyard.GuardEnded) as caught:
