@@ -3,3 +3,7 @@ pub mod Named
 pub mod Steps
 pub mod Reading
 pub mod Tellings
+pub mod Members
+pub mod Apart
+pub mod SoFar
+pub mod Taking

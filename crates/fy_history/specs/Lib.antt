@@ -3,3 +3,4 @@ pub mod Views
 pub mod Lines
 pub mod Progress
 pub mod Histories
+pub mod Sound

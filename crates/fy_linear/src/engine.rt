@@ -5,10 +5,10 @@ ghost use Rattle.fy_lines.specs.Prefixes.{AppendsProperPrefix};
 ghost use Rattle.fy_histories.specs.Stops.{TellsHistory, IsHistoryStop};
 ghost use Rattle.fy_linear.specs.Linears.{Tells, any};
 
-use crate::judged::judge_history;
 use crate::spelling::Spelling;
 use fy_histories::HistoriesStop;
 use fy_history::{Known, MOST_NODES, read_history};
+use fy_keys::judge_history;
 use fy_lines::write_bytes;
 use fy_streams::Stop;
 use std::alloc::Global;
@@ -21,7 +21,8 @@ const ANY: Known = Known {
 };
 
 /// Reads a history to its end, judges each key, and writes what was judged. The answer is whether
-/// each key is linearizable.
+/// each key is linearizable: whether its operations have an order, with the texts that the history
+/// has as values.
 ///
 /// All is read and judged before the first byte is written.
 ///

@@ -2,10 +2,7 @@
 #![tactic(auto)]
 
 mod engine;
-mod judged;
-mod operations;
 mod spelling;
 
 pub use engine::run_linear;
-pub use judged::Judged;
 pub use spelling::{Jsonl, Spelling};

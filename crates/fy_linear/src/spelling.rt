@@ -1,7 +1,7 @@
 //! How what was judged is spelled. The engine is generic in it, so what it writes comes from what
 //! was judged and from nothing else. How `linear` spells is only tested.
-use crate::judged::Judged;
 use fy_history::Names;
+use fy_keys::Judged;
 use fy_registers::{Act, Evidence, Judgement, Keyed, Operation};
 use indexmap::IndexSet;
 use json::Writer;
@@ -10,7 +10,7 @@ use std::alloc::{AllocError, Global};
 /// A way to spell what was judged of a history. `spells` says which bytes stand for it.
 pub trait Spelling {
     ghost use Rattle.std.specs.Prelude.{ℕ, List, IfOk};
-    ghost use Rattle.fy_linear.specs.declared.judged.Judged.{Judged};
+    ghost use Rattle.fy_keys.specs.declared.judged.Judged.{Judged};
 
     ghost spells: { Self → List (List ℕ) → Judged → List ℕ → Type 0 };
 
@@ -41,13 +41,7 @@ fn write_count(line: &mut Writer, name: &str, count: usize) -> Result<(), AllocE
     line.u64(count as u64)
 }
 
-/// The operation that began at a line, with the number of a text as its value.
-fn told_at(operations: &[Keyed], began: u32) -> Option<Operation> {
-    let at = operations.partition_point(|keyed| keyed.operation.began < began);
-    Some(operations.get(at)?.operation)
-}
-
-/// Writes an operation.
+/// Writes an operation, whose value is the number of a text.
 fn write_operation(
     line: &mut Writer,
     names: &Names,
@@ -107,7 +101,6 @@ fn shown_by(evidence: Evidence) -> (&'static str, [Option<Operation>; 4]) {
 fn write_refuted(
     bytes: Vec<u8>,
     names: &Names,
-    judged: &Judged,
     key: u32,
     judgement: Option<Judgement>,
 ) -> Result<Vec<u8>, AllocError> {
@@ -119,10 +112,8 @@ fn write_refuted(
     line.key("operations")?;
     line.begin_array()?;
     for operation in operations {
-        if let Some(operation) = operation
-            && let Some(told) = told_at(&judged.operations, operation.began)
-        {
-            write_operation(&mut line, names, told)?;
+        if let Some(operation) = operation {
+            write_operation(&mut line, names, operation)?;
         }
     }
     line.end_array()?;
@@ -151,7 +142,7 @@ impl Spelling for Jsonl {
         let (mut key, mut not) = (0u32, 0usize);
         for judgement in &judged.judgements {
             if *judgement != Some(Judgement::Linearizable) {
-                bytes = write_refuted(bytes, names, judged, key, *judgement)?;
+                bytes = write_refuted(bytes, names, key, *judgement)?;
                 not = not.saturating_add(1);
             }
             key = key.saturating_add(1);

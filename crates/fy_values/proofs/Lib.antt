@@ -1,0 +1,4 @@
+pub mod Maps
+pub mod Renumbered
+pub mod Numbering
+pub mod Parts
