@@ -11,6 +11,7 @@
 #include <unistd.h>
 
 #include "disk.h"
+#include "faults.h"
 
 static struct disk disk;
 static char *words[8];
@@ -108,6 +109,12 @@ static void chmod_node(void)
     answer(disk_set(at(words[1]), &wanted, SET_MODE));
 }
 
+static void set_room(void)
+{
+    disk_bound(&disk, strtoull(words[1], NULL, 10));
+    answer(0);
+}
+
 static void rename_node(void)
 {
     const char *last, *to_last;
@@ -181,7 +188,8 @@ static const struct {
     void (*call)(void);
 } CALLS[] = {{"make", make},       {"write", change},       {"resize", change},
              {"allocate", change}, {"chmod", chmod_node},   {"rename", rename_node},
-             {"link", link_node},  {"remove", remove_node}, {"cut", cut}};
+             {"link", link_node},  {"remove", remove_node}, {"room", set_room},
+             {"cut", cut}};
 
 static void obey(const char *call)
 {

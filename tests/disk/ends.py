@@ -161,6 +161,106 @@ def written_back(program):
         assert 40 <= (disk.folder / "large").stat().st_size >> 20 <= 60
 
 
+def slow(program):
+    """A slow disk takes its time for each read, write and sync, and no more once that has ended."""
+
+    def seconds(call, *words):
+        began = time.monotonic()
+        call(*words)
+        return time.monotonic() - began
+
+    with mounted(program) as disk:
+        assert order(disk, "slow", disk.top, "0.3") == (0, "", "")
+        assert seconds(write, disk.top / "one", b"1") >= 0.6, "a write and a sync"
+        assert order(disk, "slow", disk.top, "0", "10000") == (0, "", "")
+        assert seconds(write, disk.top / "bytes", b"b" * 4000) >= 0.4
+        with open(disk.top / "bytes", "rb") as file:
+            os.posix_fadvise(file.fileno(), 0, 0, os.POSIX_FADV_DONTNEED)
+            assert seconds(file.read) >= 0.4
+        assert order(disk, "slow", disk.top, "1000") == (0, "", "")
+        assert (disk.top / "bytes").stat().st_size == 4000, "what is no data isn't slow"
+        assert order(disk, "slow", disk.top, "0") == (0, "", "")
+        write(disk.top / "after", b"a" * 100000)
+
+
+def full(program):
+    """What has no room is refused, and what is removed gives room back once it isn't open."""
+    with mounted(program) as disk:
+        write(disk.top / "old", b"o" * 6000)
+        assert order(disk, "room", disk.top, "1000") == (0, "", "")
+        found = os.statvfs(disk.top)
+        assert found.f_bavail == 1000 // found.f_frsize, found
+        write(disk.top / "a", b"a" * 900)
+        refused(errno.ENOSPC, write, disk.top / "b", b"b" * 101)
+        write(disk.top / "b", b"b" * 100)
+        write(disk.top / "old", b"n" * 6000)
+        refused(errno.ENOSPC, os.truncate, disk.top / "a", 901)
+        with open(disk.top / "a", "rb") as held:
+            os.unlink(disk.top / "a")
+            refused(errno.ENOSPC, write, disk.top / "c", b"c")
+            assert held.read() == b"a" * 900
+        waited_for(lambda: write(disk.top / "c", b"c" * 900))
+        refused(errno.ENOSPC, write, disk.top / "d", b"d")
+        with open(disk.top / "c", "r+b") as file:
+            file.truncate(0)
+        write(disk.top / "d", b"d" * 900)
+        assert order(disk, "room", disk.top, "all") == (0, "", "")
+        write(disk.top / "e", b"e" * 100000)
+        disk.end()
+        sizes = {name: (disk.folder / name).stat().st_size for name in os.listdir(disk.folder)}
+        assert sizes == {"old": 6000, "b": 100, "c": 0, "d": 900, "e": 100000}, sizes
+
+
+def waited_for(call):
+    """A kernel closes a file some time after its user has."""
+    while True:
+        try:
+            return call()
+        except OSError as fault:
+            if fault.errno != errno.ENOSPC:
+                raise
+            time.sleep(0.01)
+
+
+def bad_parts(program):
+    """A bad sector can't be read, a lying byte is read wrong, until it is written or cut off; what
+    is on the disk stays as it was."""
+    data = bytes(range(256)) * 64
+
+    def told(place, length):
+        with open(disk.top / "file", "rb", buffering=0) as file:
+            return os.pread(file.fileno(), length, place)
+
+    with mounted(program) as disk:
+        write(disk.top / "file", data)
+        assert order(disk, "fail", disk.top / "file", 4097, 4096) == (0, "", "")
+        assert told(0, 4096) == data[:4096]
+        for place in (4096, 8191, 8192, 12287):
+            refused(errno.EIO, told, place, 1)
+        assert told(12288, 4096) == data[12288:]
+        assert (disk.folder / "file").read_bytes() == data
+        with open(disk.top / "file", "r+b", buffering=0) as file:
+            os.pwrite(file.fileno(), b"new", 5000)
+        assert told(4096, 904) + told(5000, 3) == data[4096:5000] + b"new"
+        refused(errno.EIO, told, 8192, 1)
+        assert order(disk, "lie", disk.top / "file", 10, 2) == (0, "", "")
+        assert told(9, 4) == bytes([9, 10 ^ 1, 11 ^ 1, 12])
+        os.truncate(disk.top / "file", 8192)
+        os.truncate(disk.top / "file", 9000)
+        assert told(8192, 808) == bytes(808)
+        for words in (("0", "0"), ("8999", "2"), ("9000", "1"), ("0", "99999999999")):
+            said = order(disk, "fail", disk.top / "file", *words)
+            assert said == (1, "", f"faultyard-lossy: {disk.top}/file: Invalid argument\n"), said
+        for path in (disk.folder / "file", disk.top):
+            said = order(disk, "lie", path, "0", "1")
+            told_why = f"{path} is no file of a mounted disk of faultyard-lossy"
+            assert said == (1, "", f"faultyard-lossy: {told_why}\n"), said
+        disk.end()
+        assert (disk.folder / "file").read_bytes()[4990:5010] == data[4990:5000] + b"new" + (
+            data[5003:5010]
+        )
+
+
 def only_one(program):
     """A folder is one disk at a time; a mount is found by its path, however it is written."""
     with mounted(program) as disk:
@@ -203,6 +303,13 @@ def wrong_words(program):
             ["cut", room, "18446744073709551616"],
             ["cut", room, "1x"],
             ["mount", "--what", room, room],
+            ["slow", room],
+            ["slow", room, "-1"],
+            ["slow", room, "1", "0"],
+            ["room", room],
+            ["room", room, "none"],
+            ["fail", room, "1"],
+            ["lie", room, "1", "9223372036854775808"],
             ["what"],
         ]
         for words in usages:
@@ -217,6 +324,9 @@ def wrong_words(program):
             ["cut", room],
             ["sync", "/none/none"],
             ["unmount", room],
+            ["slow", room, "1"],
+            ["room", room, "1"],
+            ["fail", room, "0", "1"],
             ["mount", __file__, room],
         ):
             done = subprocess.run([program, *words], capture_output=True, text=True)
@@ -237,6 +347,9 @@ ENDS = (
     held_file,
     orderly_end,
     written_back,
+    slow,
+    full,
+    bad_parts,
     only_one,
     other_files,
     wrong_words,

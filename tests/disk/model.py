@@ -53,7 +53,9 @@ def below(folder):
 
 
 class Model:
-    def __init__(self, is_deaf=False):
+    def __init__(self, is_deaf=False, is_bounded=False):
+        self.is_bounded = is_bounded  # whether draw bounds what its files may hold
+        self.bound = None
         self.root = Node("folder", 0o755)
         self.root.is_made = True
         self.items = []
@@ -143,9 +145,23 @@ class Model:
         self.items.append(("make", node, folder, name))
         return None
 
+    def held(self):
+        files = {node for _, node in self.paths() if node.kind == "file"}
+        return sum(len(node.live) for node in files)
+
+    def room(self, more):
+        self.bound = None if more is None else self.held() + more
+        return None
+
+    def has_room(self, node, size):
+        more = size - len(node.live)
+        return self.bound is None or more <= max(0, self.bound - self.held()) or more <= 0
+
     def write(self, path, place, data, how=""):
         node = self.at(path)
         place = len(node.live) if how == "append" else place
+        if not self.has_room(node, place + len(data)):
+            return "ENOSPC"
         if place + len(data) > len(node.live):
             self.note_growth(node)
         poke(node.live, place, data)
@@ -163,6 +179,8 @@ class Model:
 
     def resize(self, path, size, how=""):
         node = self.at(path)
+        if not self.has_room(node, size):
+            return "ENOSPC"
         if size != len(node.live):
             self.note_growth(node)
         resize(node.live, size)
@@ -172,8 +190,8 @@ class Model:
     def allocate(self, path, mode, place, length):
         node, end = self.at(path), place + length
         old = len(node.live)
-        if not mode & KEEP and old < end:
-            self.resize(path, end)
+        if not mode & KEEP and old < end and (why := self.resize(path, end)):
+            return why
         if mode & ~KEEP and place < old:
             data = bytes(min(end, old) - place)
             poke(node.live, place, data)
@@ -350,6 +368,7 @@ class Model:
         for it in kept:
             self.perform(it)
         self.items = []
+        self.bound = None
         self.settle()
         return f"{len(kept)} of {len(parts)} unsynced items survive"
 
@@ -380,6 +399,7 @@ WEIGHTS = {
     "chmod": 2,
     "cut": 1,
     "end": 0.4,
+    "room": 2,
 }
 HOWS = ("", "", "", "", "append", "dsync", "sync", "rwf_dsync", "direct", "msync")
 
@@ -387,6 +407,9 @@ HOWS = ("", "", "", "", "append", "dsync", "sync", "rwf_dsync", "direct", "msync
 def draw(dice, model):
     """A call by chance."""
     deed = dice.choices(list(WEIGHTS), list(WEIGHTS.values()))[0]
+    if deed == "room":
+        more = dice.choice([None, 0, dice.randrange(60000)])
+        return ("room", more) if model.is_bounded else None
     paths = [path for path, _ in model.paths()]
     files = [path for path in paths if model.at(path).kind == "file"]
     name = dice.choice(NAMES) * dice.choices([1, LONGEST, LONGEST + 1], [60, 1, 2])[0]

@@ -76,6 +76,9 @@ class Bare:
     def allocate(self, path, mode, place, length):
         self.tell("allocate", path, mode | (1 if mode == PUNCH else 0), place, length)
 
+    def room(self, more):
+        self.tell("room", 2**64 - 1 if more is None else more)
+
     def chmod(self, path, mode):
         self.tell("chmod", path, mode)
 

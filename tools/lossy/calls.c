@@ -9,6 +9,7 @@
 #include <time.h>
 #include <unistd.h>
 
+#include "faults.h"
 #include "items.h"
 #include "nodes.h"
 
@@ -281,9 +282,12 @@ static int write_through(struct disk *disk, struct node *node, const void *data,
 
 int disk_write(struct disk *disk, struct node *node, const void *data, size_t length, off_t place)
 {
+    off_t end = place + (off_t)length;
     bool is_unsynced = has_room(disk, length);
     struct item *item = is_unsynced ? item_of(WRITE, node, data, length) : NULL;
-    int why = is_unsynced && !item ? ENOMEM : to_live(node);
+    int why = is_unsynced && !item ? ENOMEM : disk_check_size(disk, node, end);
+    if (!why)
+        why = to_live(node);
     if (!why && !is_unsynced)
         why = write_through(disk, node, data, length, place);
     if (!why)
@@ -293,8 +297,9 @@ int disk_write(struct disk *disk, struct node *node, const void *data, size_t le
             item_free(item);
         return why;
     }
-    if (node->st.st_size < place + (off_t)length)
-        node->st.st_size = place + (off_t)length;
+    if (node->st.st_size < end)
+        disk_set_size(disk, node, end);
+    node_mend(node, place, (off_t)length);
     touch(node);
     if (item) {
         item->place = place;
@@ -306,7 +311,9 @@ int disk_write(struct disk *disk, struct node *node, const void *data, size_t le
 int disk_resize(struct disk *disk, struct node *node, off_t size)
 {
     struct item *item = item_of(RESIZE, node, NULL, 0);
-    int why = item ? to_live(node) : ENOMEM;
+    int why = item ? disk_check_size(disk, node, size) : ENOMEM;
+    if (!why)
+        why = to_live(node);
     if (!why && ftruncate(node->live, size))
         why = errno;
     if (why) {
@@ -314,7 +321,10 @@ int disk_resize(struct disk *disk, struct node *node, off_t size)
             item_free(item);
         return why;
     }
-    item->place = node->st.st_size = size;
+    if (size < node->st.st_size)
+        node_mend(node, size, node->st.st_size - size);
+    disk_set_size(disk, node, size);
+    item->place = size;
     touch(node);
     item_add(disk, item);
     return 0;
@@ -331,6 +341,7 @@ static int disk_zero(struct disk *disk, struct node *node, off_t place, off_t le
             item_free(item);
         return why;
     }
+    node_mend(node, place, length);
     item->place = place;
     item->length = (size_t)length;
     touch(node);

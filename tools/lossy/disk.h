@@ -22,6 +22,7 @@
 // A write counts as its sectors: a cut keeps each or loses it.
 enum { SECTOR = 4096 };
 
+struct bad;
 struct item;
 struct name;
 
@@ -37,6 +38,7 @@ struct node {
     struct name *names;  // of a folder
     struct node *parent; // of a folder
     struct chain chain;  // of a file: its unsynced items
+    struct bad *bad;     // of a file: what can't be read, or is told wrong
     unsigned long references, opens;
 };
 
@@ -46,6 +48,13 @@ struct name {
     struct node *folder, *node;
     char text[];
 };
+
+// How slow a disk is: in seconds, a call and each byte of it.
+struct pace {
+    double call, byte;
+};
+
+#define NO_BOUND UINT64_MAX
 
 struct disk {
     struct node *root;
@@ -58,6 +67,9 @@ struct disk {
     bool is_deaf;     // a sync does nothing
     double writeback; // after so many seconds what was done is durable by itself; 0 for never
     int failed;       // why something couldn't be made durable, or 0
+    struct pace pace;
+    uint64_t held;  // the sizes of all files, as users see them
+    uint64_t bound; // of what is held, or NO_BOUND
 };
 
 struct count {

@@ -22,12 +22,24 @@ static const char USAGE_TEXT[] =
     "usage: faultyard-lossy mount [--deaf] [--foreground] [--writeback SECONDS] DISK MOUNT\n"
     "       faultyard-lossy sync MOUNT\n"
     "       faultyard-lossy cut MOUNT [TEAR]\n"
-    "       faultyard-lossy unmount MOUNT\n";
+    "       faultyard-lossy unmount MOUNT\n"
+    "       faultyard-lossy slow MOUNT SECONDS [BYTES]\n"
+    "       faultyard-lossy room MOUNT BYTES|all\n"
+    "       faultyard-lossy fail FILE PLACE LENGTH\n"
+    "       faultyard-lossy lie FILE PLACE LENGTH\n";
 
 static const char HELP_TEXT[] =
     "\n"
     "A disk that forgets what wasn't synced once its power is cut. The folder DISK has what is\n"
     "durable, and MOUNT shows the disk.\n"
+    "\n"
+    "faults of a mounted disk:\n"
+    "  slow  each read, write and sync takes so many seconds longer, at most so many bytes a\n"
+    "        second; 0 ends it\n"
+    "  room  its files can grow by so many bytes together, to which what is removed comes\n"
+    "  fail  these sectors of a file can't be read (EIO) until they are written; a file that is\n"
+    "        open may still be read from the machine's memory\n"
+    "  lie   these bytes are read with their lowest bit turned, until their sector is written\n"
     "\n"
     "options:\n"
     "  --deaf               syncs do nothing, as on a disk that lies\n"
@@ -178,13 +190,13 @@ static bool find_mounted(const char *path, struct mounted *found)
     return false;
 }
 
-static int give(const char *mount, unsigned long command, struct order *order)
+static int give(const char *path, int flags, unsigned long command, void *order)
 {
-    int why, folder = open(mount, O_RDONLY | O_DIRECTORY | O_CLOEXEC);
-    if (folder < 0)
+    int why, file = open(path, O_RDONLY | O_CLOEXEC | O_NONBLOCK | flags);
+    if (file < 0)
         return errno;
-    why = ioctl(folder, command, order) ? errno : 0;
-    close(folder);
+    why = ioctl(file, command, order) ? errno : 0;
+    close(file);
     return why;
 }
 
@@ -224,14 +236,14 @@ static void wait_for_its_end(const char *disk)
 static int sync_disk(const struct mounted *it)
 {
     struct order order = {0, {0, 0}};
-    int why = give(it->mount, LOSSY_SYNC, &order);
+    int why = give(it->mount, O_DIRECTORY, LOSSY_SYNC, &order);
     return why ? fail(it->mount, why) : DONE;
 }
 
 static int cut_disk(const struct mounted *it, uint64_t tear)
 {
     struct order order = {tear, {0, 0}};
-    int why = give(it->mount, LOSSY_CUT, &order);
+    int why = give(it->mount, O_DIRECTORY, LOSSY_CUT, &order);
     if (why)
         return fail(it->mount, why);
     why = take_off(it->mount, true);
@@ -247,7 +259,7 @@ static int cut_disk(const struct mounted *it, uint64_t tear)
 static int unmount_disk(const struct mounted *it)
 {
     struct order order = {0, {0, 0}};
-    int why = give(it->mount, LOSSY_SYNC, &order);
+    int why = give(it->mount, O_DIRECTORY, LOSSY_SYNC, &order);
     if (why && why != ENOTCONN)
         return fail(it->mount, why);
     why = take_off(it->mount, false);
@@ -257,40 +269,118 @@ static int unmount_disk(const struct mounted *it)
     return DONE;
 }
 
-static bool read_tear(const char *text, uint64_t *tear)
+static bool read_number(const char *text, uint64_t *number)
 {
     char *end = NULL;
     errno = 0;
-    *tear = strtoull(text, &end, 10);
+    *number = strtoull(text, &end, 10);
     return *text >= '0' && *text <= '9' && !*end && !errno;
 }
 
-static int order_disk(int count, char **texts)
+static int order_sync(int count, char **texts)
 {
-    bool is_cut = strcmp(texts[0], "cut") == 0;
     struct mounted it;
-    uint64_t tear = 0;
     int status;
-    if (count < 2 || count > (is_cut ? 3 : 2) || (count == 3 && !read_tear(texts[2], &tear)))
+    if (count != 2)
         return refuse();
     if (!find_mounted(texts[1], &it))
         return FAILED;
-    if (is_cut)
-        status = cut_disk(&it, tear);
-    else
-        status = strcmp(texts[0], "sync") == 0 ? sync_disk(&it) : unmount_disk(&it);
+    status = sync_disk(&it);
     free_mounted(&it);
     return status;
 }
+
+static int order_cut(int count, char **texts)
+{
+    struct mounted it;
+    uint64_t tear = 0;
+    int status;
+    if (count < 2 || count > 3 || (count == 3 && !read_number(texts[2], &tear)))
+        return refuse();
+    if (!find_mounted(texts[1], &it))
+        return FAILED;
+    status = cut_disk(&it, tear);
+    free_mounted(&it);
+    return status;
+}
+
+static int order_unmount(int count, char **texts)
+{
+    struct mounted it;
+    int status;
+    if (count != 2)
+        return refuse();
+    if (!find_mounted(texts[1], &it))
+        return FAILED;
+    status = unmount_disk(&it);
+    free_mounted(&it);
+    return status;
+}
+
+// ---- faults of a mounted disk ----
+
+// Gives a mounted disk an order by its top folder.
+static int tell(const char *path, unsigned long command, void *order)
+{
+    struct mounted it;
+    int why;
+    if (!find_mounted(path, &it))
+        return FAILED;
+    why = give(it.mount, O_DIRECTORY, command, order);
+    free_mounted(&it);
+    return why ? fail(path, why) : DONE;
+}
+
+static int order_slow(int count, char **texts)
+{
+    struct pace pace = {0, 0};
+    uint64_t bytes = 0;
+    if (count < 3 || count > 4 || !read_seconds(texts[2], &pace.call) ||
+        (count == 4 && (!read_number(texts[3], &bytes) || !bytes)))
+        return refuse();
+    pace.byte = bytes ? 1 / (double)bytes : 0;
+    return tell(texts[1], LOSSY_SLOW, &pace);
+}
+
+static int order_room(int count, char **texts)
+{
+    uint64_t bytes = NO_BOUND;
+    if (count != 3 || (strcmp(texts[2], "all") != 0 && !read_number(texts[2], &bytes)))
+        return refuse();
+    return tell(texts[1], LOSSY_ROOM, &bytes);
+}
+
+static int order_spoil(int count, char **texts)
+{
+    struct part part;
+    uint64_t place, length;
+    int why;
+    if (count != 4 || !read_number(texts[2], &place) || !read_number(texts[3], &length) ||
+        place > INT64_MAX || length > INT64_MAX)
+        return refuse();
+    part = (struct part){(int64_t)place, (int64_t)length};
+    why = give(texts[1], 0, strcmp(texts[0], "fail") == 0 ? LOSSY_FAIL : LOSSY_LIE, &part);
+    if (why != ENOTTY)
+        return why ? fail(texts[1], why) : DONE;
+    fprintf(stderr, "faultyard-lossy: %s is no file of a mounted disk of faultyard-lossy\n",
+            texts[1]);
+    return FAILED;
+}
+
+static const struct {
+    const char *name;
+    int (*call)(int count, char **texts);
+} DEEDS[] = {{"mount", mount_disk},      {"sync", order_sync}, {"cut", order_cut},
+             {"unmount", order_unmount}, {"slow", order_slow}, {"room", order_room},
+             {"fail", order_spoil},      {"lie", order_spoil}};
 
 int main(int count, char **texts)
 {
     const char *deed = count > 1 ? texts[1] : "";
     if (count == 2 && (strcmp(deed, "--help") == 0 || strcmp(deed, "-h") == 0))
         return help();
-    if (strcmp(deed, "mount") == 0)
-        return mount_disk(count - 1, texts + 1);
-    if (strcmp(deed, "sync") == 0 || strcmp(deed, "cut") == 0 || strcmp(deed, "unmount") == 0)
-        return order_disk(count - 1, texts + 1);
+    for (size_t place = 0; place < sizeof DEEDS / sizeof *DEEDS; place++)
+        if (strcmp(deed, DEEDS[place].name) == 0)
+            return DEEDS[place].call(count - 1, texts + 1);
     return refuse();
 }

@@ -1,10 +1,8 @@
 // The disk as FUSE asks for it: each request is a call of the disk and a reply.
-#define FUSE_USE_VERSION 35
 #include "mount.h"
 
 #include <errno.h>
 #include <fcntl.h>
-#include <fuse_lowlevel.h>
 #include <stdio.h>
 #include <stdlib.h>
 #include <string.h>
@@ -12,17 +10,10 @@
 #include <time.h>
 #include <unistd.h>
 
+#include "faults.h"
+#include "requests.h"
+
 static const double FOREVER = 1e6; // nothing changes behind the kernel's back
-
-static struct disk *disk_of(fuse_req_t request)
-{
-    return fuse_req_userdata(request);
-}
-
-static struct node *node_at(fuse_req_t request, fuse_ino_t number)
-{
-    return number == FUSE_ROOT_ID ? disk_of(request)->root : (struct node *)number;
-}
 
 static struct stat stat_of(const struct node *node)
 {
@@ -188,7 +179,7 @@ static void set_attributes(fuse_req_t request, fuse_ino_t number, struct stat *w
 static void opened(struct node *node, struct fuse_file_info *file)
 {
     node->opens++;
-    file->keep_cache = 1;
+    file->keep_cache = !node->bad; // what is bad is read from the disk again
 }
 
 static void create_file(fuse_req_t request, fuse_ino_t folder, const char *text, mode_t mode,
@@ -223,6 +214,7 @@ static void close_file(fuse_req_t request, fuse_ino_t number, struct fuse_file_i
     struct node *node = node_at(request, number);
     (void)file;
     node->opens--;
+    disk_let_go(disk_of(request), node);
     node_settle(node);
     fuse_reply_err(request, 0);
 }
@@ -230,11 +222,16 @@ static void close_file(fuse_req_t request, fuse_ino_t number, struct fuse_file_i
 static void read_file(fuse_req_t request, fuse_ino_t number, size_t size, off_t place,
                       struct fuse_file_info *file)
 {
+    const struct node *node = node_at(request, number);
     char *part = malloc(size);
-    ssize_t got = part ? pread(node_contents(node_at(request, number)), part, size, place) : -1;
+    ssize_t got = part ? pread(node_contents(node), part, size, place) : -1;
+    int why = part ? errno : ENOMEM;
     (void)file;
-    if (got < 0)
-        fuse_reply_err(request, part ? errno : ENOMEM);
+    disk_wait(disk_of(request), size);
+    if (got >= 0)
+        why = node_tell(node, part, (size_t)got, place);
+    if (got < 0 || why)
+        fuse_reply_err(request, why);
     else
         fuse_reply_buf(request, part, (size_t)got);
     free(part);
@@ -245,6 +242,7 @@ static void write_file(fuse_req_t request, fuse_ino_t number, const char *data, 
 {
     struct node *node = node_at(request, number);
     int why = disk_write(disk_of(request), node, data, size, place);
+    disk_wait(disk_of(request), size);
     if (!why && file->flags & O_DSYNC) // O_SYNC has this bit too
         why = disk_sync(disk_of(request), node);
     if (why)
@@ -258,6 +256,7 @@ static void sync_node(fuse_req_t request, fuse_ino_t number, int is_data_only,
 {
     (void)is_data_only;
     (void)file;
+    disk_wait(disk_of(request), 0);
     fuse_reply_err(request, disk_sync(disk_of(request), node_at(request, number)));
 }
 
@@ -334,61 +333,16 @@ static void close_folder(fuse_req_t request, fuse_ino_t number, struct fuse_file
 static void tell_space(fuse_req_t request, fuse_ino_t number)
 {
     struct statvfs space;
+    fsblkcnt_t room;
     (void)number;
-    if (fstatvfs(disk_of(request)->root->durable, &space))
+    if (fstatvfs(disk_of(request)->root->durable, &space)) {
         fuse_reply_err(request, errno);
-    else
-        fuse_reply_statfs(request, &space);
-}
-
-// ---- orders ----
-
-static void say_failed(const struct disk *disk, const char *what)
-{
-    fprintf(stderr, "faultyard-lossy: %s: %s\n", what, strerror(disk->failed));
-}
-
-static void cut(fuse_req_t request, struct order *order)
-{
-    struct disk *disk = disk_of(request);
-    order->count = disk_cut(disk, order->tear);
-    if (disk->failed)
-        say_failed(disk, "not all that survives the cut could be written");
-    fuse_reply_ioctl(request, 0, order, sizeof *order);
-    _exit(disk->failed ? 1 : 0); // the machine is off
-}
-
-static void sync_everything(fuse_req_t request, struct order *order)
-{
-    int why = disk_sync_all(disk_of(request));
-    if (why)
-        fuse_reply_err(request, why);
-    else
-        fuse_reply_ioctl(request, 0, order, sizeof *order);
-}
-
-static void obey(fuse_req_t request, fuse_ino_t number, unsigned command, void *argument,
-                 struct fuse_file_info *file, unsigned flags, const void *in, size_t in_size,
-                 size_t out_size)
-{
-    const struct fuse_ctx *caller = fuse_req_ctx(request);
-    struct order order;
-    (void)argument;
-    (void)file;
-    (void)flags;
-    if (number != FUSE_ROOT_ID || in_size != sizeof order || out_size != sizeof order) {
-        fuse_reply_err(request, ENOTTY);
-    } else if (caller->uid != 0 && caller->uid != geteuid()) {
-        fuse_reply_err(request, EPERM);
-    } else {
-        memcpy(&order, in, sizeof order);
-        if (command == LOSSY_CUT)
-            cut(request, &order);
-        else if (command == LOSSY_SYNC)
-            sync_everything(request, &order);
-        else
-            fuse_reply_err(request, ENOTTY);
+        return;
     }
+    room = disk_room(disk_of(request)) / space.f_frsize;
+    space.f_bfree = room < space.f_bfree ? room : space.f_bfree;
+    space.f_bavail = room < space.f_bavail ? room : space.f_bavail;
+    fuse_reply_statfs(request, &space);
 }
 
 // ---- the session ----
@@ -426,7 +380,7 @@ static const struct fuse_lowlevel_ops CALLS = {
     .statfs = tell_space,
     .create = create_file,
     .fallocate = allocate,
-    .ioctl = obey,
+    .ioctl = disk_obey,
 };
 
 static int add_options(struct fuse_args *args, const char *folder)
@@ -449,7 +403,7 @@ static int serve(struct disk *disk, struct fuse_session *session, bool is_foregr
         (void)fuse_session_loop(session);
     disk->failed = 0;
     if (disk_sync_all(disk))
-        say_failed(disk, "what was unsynced at the end is lost");
+        disk_say_failed(disk, "what was unsynced at the end is lost");
     return why || disk->failed ? 1 : 0;
 }
 

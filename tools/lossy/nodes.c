@@ -6,6 +6,8 @@
 #include <time.h>
 #include <unistd.h>
 
+#include "faults.h"
+
 enum { FIRST_SIZE = 64 };
 
 void touch(struct node *node)
@@ -42,6 +44,7 @@ void node_drop(struct node *node, unsigned long references)
         close(node->durable);
     if (node->live >= 0)
         close(node->live);
+    node_mend_all(node);
     free(node->target);
     free(node);
 }
@@ -143,6 +146,7 @@ void name_take(struct disk *disk, struct name *name)
         folder->st.st_nlink--;
     else
         node->st.st_nlink--;
+    disk_let_go(disk, node);
     touch(folder);
     node_drop(node, 1);
     free(name);

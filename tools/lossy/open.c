@@ -8,6 +8,7 @@
 #include <sys/file.h>
 #include <unistd.h>
 
+#include "faults.h"
 #include "items.h"
 #include "nodes.h"
 
@@ -65,7 +66,9 @@ static struct node *node_as(struct disk *disk, const struct stat *st)
     node->st.st_atim = st->st_atim;
     node->st.st_mtim = st->st_mtim;
     node->st.st_ctim = st->st_ctim;
-    if (!S_ISDIR(st->st_mode))
+    if (S_ISREG(st->st_mode))
+        disk_set_size(disk, node, st->st_size);
+    else if (S_ISLNK(st->st_mode))
         node->st.st_size = st->st_size;
     return node;
 }
@@ -181,6 +184,7 @@ static int load_root(struct disk *disk, const char *folder)
 int disk_open(struct disk *disk, const char *folder)
 {
     int why = names_begin(disk);
+    disk->bound = NO_BOUND;
     if (!why)
         why = items_begin(disk);
     if (!why)
