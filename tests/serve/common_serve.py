@@ -21,7 +21,8 @@ ROOT = Path(__file__).resolve().parents[2]
 SOURCE = ROOT / "tools/serve"
 PROGRAM = os.environ["FAULTYARD"]
 LIBRARY: Path | None = None
-KILLS = REQUESTS = 0
+KILLS = CUTS = REQUESTS = 0
+RACE = False
 WITHOUT = "SKIPPED faultyard-serve: no library was given (make lib proves and builds it)"
 PATIENCE = 60.0
 HEADER = b'{"audit":2}\n'
@@ -54,7 +55,8 @@ def built() -> Path:
     if LIBRARY is None:
         raise unittest.SkipTest(WITHOUT)
     binary = workshop() / "faultyard-serve"
-    ran = run(SOURCE / "build", LIBRARY, binary, env=go_environment())
+    flags = ["-race"] if RACE else []
+    ran = run(SOURCE / "build", LIBRARY, binary, *flags, env=go_environment())
     if ran.returncode:
         raise AssertionError(ran.stdout + ran.stderr)
     return binary

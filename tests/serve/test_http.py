@@ -15,7 +15,7 @@ from pathlib import Path
 
 import common
 from common_serve import HEADER, PATIENCE, PROGRAM, REQUESTS
-from common_serve import Case, certificate, kill, run, up
+from common_serve import Case, certificate, cluster, kill, run, up
 
 
 class Answers(Case):
@@ -51,6 +51,27 @@ class Answers(Case):
         self.assertEqual(json.loads(text), {"processes": [{"number": 0, "processid": "p0"}]})
         for query in ("key=zone&value=z0", "key=zoneid&value=-", "key=zoneid", ""):
             self.assertEqual(server.ask("GET", f"/v1/targets?{query}")[0], 400)
+
+    def test_names_stay_when_a_process_is_gone_and_however_they_are_written(self):
+        config = cluster().replace('"p1"', '"\\u00701"').replace('"m1"', '"""\\\n  m1"""')
+        config = config.replace('"p3"', "'p3'").replace(
+            'zoneid="z1"', '"zone\\u0069d"="\\U0000007a1"'
+        )
+        server = self.server(config=config).start()
+        names = [(f"p{number}", f"m{number}", f"z{number // 2}") for number in range(6)]
+
+        def told():
+            processes = json.loads(server.ask("GET", "/v1/status")[1])["processes"]
+            return [(it["processid"], it["machineid"], it["zoneid"]) for it in processes]
+
+        self.assertEqual(told(), names)
+        for number in (1, 2):
+            server.ask("POST", "/v1/acts", kill(number, "KillInstantly"))
+        self.assertEqual(server.end(), 0)
+        server.start()
+        self.assertEqual(told(), names)
+        gone = [it["gone"] for it in json.loads(server.ask("GET", "/v1/status")[1])["processes"]]
+        self.assertIn(True, gone)
 
     def test_the_picture_and_what_may_be_lost_are_the_programs(self):
         server = self.server().start()

@@ -9,6 +9,7 @@ import browser
 import common
 from browser import Browser
 from common_serve import PATIENCE, ROOT, Case, cluster, kill, run
+from proxying import nginx
 
 LIVE = "document.getElementById('live').textContent"
 ROWS = "document.getElementById('orders-body').rows.length"
@@ -73,6 +74,23 @@ class Page(Case):
             server.ask("POST", "/v1/acts", kill(process))
         tab.wait(f"{LIVE} === 'live, 4 entries' && {ROWS} === 4")
         tab.wait("!document.getElementById('orders').innerText.includes('RebootProcess')")
+
+    def test_behind_a_proxy_entries_are_shown_as_they_come(self):
+        path = common.written(self.folder, "tokens", "")
+        path.chmod(0o600)
+        path.write_text("zero-zero-zero-zero 0\none-one-one-one-one 1\n")
+        server = self.server("--tokens", str(path)).start()
+        tab = self.browser.tab()
+        tab.open(f"http://{nginx(self, server.address)}/")
+        tab.wait("document.activeElement.id === 'token'")
+        tab.value("document.getElementById('token').value = 'one-one-one-one-one'")
+        tab.press("Enter")
+        tab.wait(f"{LIVE} === 'live, 0 entries'")
+        order = {"Authorization": "Bearer one-one-one-one-one"}
+        for count in (1, 2):
+            server.ask("POST", "/v1/acts", kill(count, "RebootAndDelete"), **order)
+            words = "live, 1 entry" if count == 1 else "live, 2 entries"
+            tab.wait(f"{LIVE} === '{words}' && {ROWS} === {count}")
 
     def test_a_token_may_have_any_letters(self):
         right, path = "sechzehn-und-ein-\u20ac", common.written(self.folder, "tokens", "")

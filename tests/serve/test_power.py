@@ -16,10 +16,11 @@ from contextlib import suppress
 from pathlib import Path
 from typing import Iterator
 
-from common_serve import PATIENCE, ROOT, Case, Server, checked, free_port, kill, run, up, workshop
+from askers import Clients
+from common_serve import CUTS, PATIENCE, ROOT, Case, Server, checked, free_port, kill, run, up
+from common_serve import workshop
 
 NEEDED = "cc", "pkg-config", "libfuse3-dev", "fusermount3", "/dev/fuse"
-CUTS = 5
 STARTS = 20
 
 
@@ -140,6 +141,22 @@ class Power(Case):
         self.assertEqual(server.end(), 0)
         count = len(server.lines())
         self.assertEqual(checked(server.config, server.file), (0, f"legal {count}"))
+        disk.cut()
+
+    def test_acts_with_keys_are_made_once_whenever_the_power_is_cut(self) -> None:
+        disk, server = self.begun()
+        server.words += ["--listen", f"127.0.0.1:{free_port()}"]
+        self.addCleanup(run, "fusermount3", "-uz", "--", disk.mount)
+        disk.start()
+        clients, chance = Clients(server.start(), 8), random.Random(11)
+        for _ in range(CUTS):
+            time.sleep(chance.uniform(0.02, 0.4))
+            disk.cut()
+            server.stop()
+            disk.start()
+            server.start()
+        time.sleep(0.2)
+        clients.end(self, CUTS)
         disk.cut()
 
     def test_the_copy_of_the_cluster_file_is_whole_or_not_there(self) -> None:

@@ -2,59 +2,17 @@
 
 import http.client
 import json
-import subprocess
 import time
-from pathlib import Path
 from threading import Thread
 
 import faultyard
-from common_serve import PATIENCE, ROOT, Case, free_port, kill, run
+from common_serve import PATIENCE, Case, kill
 from faultyard import Guard, Key, Kind
+from proxying import KEPT, PLAIN, TOLD, nginx
 from test_http import ONE, tokens
-
-# What operators write, and what nginx does if they write nothing more: Host is that of proxy_pass.
-PLAIN = ""
-KEPT = "proxy_http_version 1.1; proxy_set_header Host $http_host;"
-TOLD = "proxy_http_version 1.1; proxy_set_header X-Forwarded-For $proxy_add_x_forwarded_for;"
-CONFIG = """daemon off; master_process off; pid {folder}/pid; error_log {folder}/log;
-events {{}}
-http {{
-  access_log off;
-  client_body_temp_path {folder}/body; proxy_temp_path {folder}/proxy;
-  fastcgi_temp_path {folder}/a; uwsgi_temp_path {folder}/b; scgi_temp_path {folder}/c;
-  server {{
-    listen 127.0.0.1:{port};
-    location {path} {{ proxy_pass http://{address}/; {more} }}
-  }}
-}}
-"""
 
 
 class Proxy(Case):
-    def setUp(self):
-        super().setUp()
-        lacks = run(ROOT / "tests/tools/needs", "the server behind nginx", "nginx")
-        if lacks.returncode == 1:
-            self.skipTest(lacks.stdout.strip())
-        lacks.check_returncode()
-
-    def nginx(self, address: str, more: str = PLAIN, path: str = "/") -> str:
-        """An nginx before an address; its own."""
-        port = free_port()
-        folder = self.folder / f"nginx-{port}"
-        folder.mkdir()
-        words = dict(folder=folder, port=port, address=address, more=more, path=path)
-        Path(folder, "conf").write_text(CONFIG.format(**words))
-        process = subprocess.Popen(["nginx", "-c", str(folder / "conf"), "-e", str(folder / "log")])
-        self.addCleanup(process.wait)
-        self.addCleanup(process.kill)
-        until = time.monotonic() + PATIENCE
-        while not Path(folder, "pid").exists():
-            if process.poll() is not None or time.monotonic() > until:
-                raise AssertionError(Path(folder, "log").read_text())
-            time.sleep(0.01)
-        return f"127.0.0.1:{port}"
-
     def ask(self, address, method, path, body=None, **headers):
         connection = http.client.HTTPConnection(address, timeout=PATIENCE)
         self.addCleanup(connection.close)
@@ -66,7 +24,7 @@ class Proxy(Case):
         server = self.server().start()
         for more, host in ((PLAIN, ""), (TOLD, ""), (KEPT, "example.org")):
             with self.subTest(more):
-                address = self.nginx(server.address, more)
+                address = nginx(self, server.address, more)
                 named = {"Host": host} if host else {}
                 for method, path in (("POST", "/v1/acts"), ("GET", "/v1/status")):
                     answer = self.ask(address, method, path, kill(0), **named)
@@ -77,7 +35,7 @@ class Proxy(Case):
 
     def test_events_come_through_it_as_they_are_made(self):
         server = self.server(*tokens(self.folder)).start()
-        address = self.nginx(server.address)
+        address = nginx(self, server.address)
         events = self.ask(address, "GET", "/v1/events", Authorization=ONE)
         self.assertEqual(events.readline(), b"event: audit\n")
         told = json.loads(events.readline()[len(b"data: ") :])
@@ -92,7 +50,7 @@ class Proxy(Case):
 
     def test_a_client_goes_on_while_it_answers_502(self):
         server = self.server(*tokens(self.folder)).start()
-        url = f"http://{self.nginx(server.address, path='/guard/')}/guard"
+        url = f"http://{nginx(self, server.address, path='/guard/')}/guard"
         known = {0: "zero-zero-zero-zero", 1: "one-one-one-one-one"}
         with Guard(server.config, server=url, tokens=known) as guard:
             guard.kill(Key.PROCESS, "p0", Kind.REBOOT, by=1)

@@ -10,11 +10,11 @@ import socket
 import subprocess
 import threading
 import time
-import uuid
 from contextlib import suppress
 
 import common
-from common_serve import HEADER, KILLS, PATIENCE, PROGRAM, SOURCE, Case, Server
+from askers import Clients
+from common_serve import HEADER, KILLS, PATIENCE, PROGRAM, SOURCE, Case
 from common_serve import built, checked, cluster, kill, line, run, up
 
 
@@ -385,83 +385,16 @@ class Files(Case):
         self.assertEqual((status, "no such file or directory" in said), (3, True))
 
 
-class Client(threading.Thread):
-    """Asks for acts, each with a key of its own, again and again until each is answered."""
-
-    def __init__(self, server: Server, number: int, is_over: threading.Event):
-        super().__init__()
-        self.server, self.is_over, self.random = server, is_over, random.Random(number)
-        self.by_socket = number % 2 == 0
-        self.answers: list[tuple[bytes, bytes]] = []
-        self.fault: BaseException | None = None
-        self.talk = None
-
-    def run(self):
-        try:
-            while not self.is_over.is_set():
-                self.act()
-        except BaseException as fault:
-            self.fault = fault
-
-    def act(self):
-        """One act, however often it has to be asked for."""
-        process, key = self.random.randrange(6), str(uuid.UUID(int=self.random.getrandbits(128)))
-        acts = kill(process), kill(process, "RebootAndDelete", by=2), up(process)
-        act = self.random.choice(acts)
-        while True:
-            try:
-                answer = self.ask(act, key)
-            except OSError:
-                answer = b""
-            if answer.endswith(b"\n"):
-                self.answers.append((act, answer))
-                return
-            self.talk = None
-            time.sleep(0.01)
-
-    def ask(self, act, key):
-        if self.by_socket:
-            self.talk = self.talk or self.server.talk()
-            return self.talk.ask(act[:-2] + b',"once":"' + key.encode() + b'"}\n')
-        try:
-            status, answer = self.server.ask("POST", "/v1/acts", act, Idempotency_Key=key)
-        except (AssertionError, ValueError, http.client.HTTPException):
-            return b""
-        return answer if status == 200 else b""
-
-
 class Crashes(Case):
     def test_no_answer_is_lost_and_none_is_there_twice_whenever_it_is_killed(self):
-        server, is_over = self.server().start(), threading.Event()
-        clients = [Client(server, number, is_over) for number in range(8)]
-        for client in clients:
-            client.start()
-        chance = random.Random(9)
+        server = self.server().start()
+        clients, chance = Clients(server, 8), random.Random(9)
         for _ in range(KILLS):
             time.sleep(chance.uniform(0.02, 0.4))
             server.kill()
             server.start()
         time.sleep(0.2)
-        is_over.set()
-        for client in clients:
-            client.join(120)
-            self.assertFalse(client.is_alive())
-            self.assertIsNone(client.fault)
-        self.assertEqual(server.end(), 0)
-        entries = server.lines()
-        self.assertEqual(server.check(), f"legal {len(entries)}")
-        places = []
-        for client in clients:
-            self.assertGreater(len(client.answers), KILLS)
-            for act, answer in client.answers:
-                told, asked = json.loads(answer), json.loads(act)
-                self.assertEqual(entries[told["at"]], answer)
-                self.assertEqual((told["act"], told["by"]), (asked["act"], asked["by"]))
-                places.append(told["at"])
-            ats = [json.loads(answer)["at"] for _, answer in client.answers]
-            self.assertEqual(ats, sorted(ats))
-        # Each act was asked for until it was answered: so each entry is the answer of one of them.
-        self.assertEqual(sorted(places), list(range(len(entries))))
+        clients.end(self, KILLS)
 
     def test_signals_end_it_with_status_0(self):
         for number in (signal.SIGTERM, signal.SIGINT):

@@ -3,7 +3,7 @@
 import re
 import unittest
 
-from common_serve import LIBRARY, SOURCE, built, go_environment, run
+from common_serve import LIBRARY, RACE, ROOT, SOURCE, built, go_environment, run
 
 
 def go(*words):
@@ -18,6 +18,14 @@ class Sources(unittest.TestCase):
         self.assertEqual(run("gofmt", "-l", SOURCE).stdout, "")
         go("vet", "./internal/...")
 
+    def test_staticcheck_finds_nothing(self):
+        lacks = run(ROOT / "tests/tools/needs", "the flaws of the server's Go", "go-staticcheck")
+        if lacks.returncode == 1:
+            self.skipTest(lacks.stdout.strip())
+        lacks.check_returncode()
+        told = run("go-staticcheck", "./internal/...", cwd=SOURCE, env=go_environment())
+        self.assertEqual((told.returncode, told.stdout + told.stderr), (0, ""))
+
     def test_the_packages_under_the_race_detector(self):
         told = go("test", "-race", "-count=1", "-v", "./internal/...")
         tests = "".join(it.read_text() for it in SOURCE.glob("internal/*/*_test.go"))
@@ -29,6 +37,7 @@ class Sources(unittest.TestCase):
         self.assertEqual(re.findall(r"^require (.*)$", told, re.M), ["faultyard v0.0.0"])
         self.assertFalse((SOURCE / "go.sum").exists())
 
+    @unittest.skipIf(RACE, "what is built with the race detector isn't what is shipped")
     def test_it_is_one_static_binary_that_is_built_to_the_same_bytes(self):
         first = built()
         self.assertEqual(run("ldd", first).returncode, 1)

@@ -30,8 +30,8 @@ import (
 const (
 	// mostConnected is how many may be connected at once, at each door.
 	mostConnected = 256
-	// lastSeconds is how long requests may take that are there when the server ends.
-	lastSeconds = 2 * time.Second
+	// lastLimit is how long requests may take that are there when the server ends.
+	lastLimit = 2 * time.Second
 )
 
 func main() {
@@ -146,6 +146,7 @@ func (its *server) open() (err error) {
 	if err != nil {
 		return ofLibrary(err)
 	}
+	processes := cluster.Processes(its.config, places{begun})
 	begun.Close()
 	tokens, pair, err := its.words.secrets()
 	if err != nil {
@@ -156,7 +157,6 @@ func (its *server) open() (err error) {
 	if err := its.goOn(); err != nil {
 		return err
 	}
-	processes := cluster.Processes(its.config, places{its.guard})
 	its.lines = &door.Lines{Book: its.book, Most: mostConnected}
 	its.web = &door.Web{
 		Book: its.book, Processes: processes, Guard: places{its.guard}, Tokens: its.tokens,
@@ -287,7 +287,7 @@ func (its *server) end() {
 		_ = its.book.Close()
 	}
 	if its.http != nil {
-		last, cancel := context.WithTimeout(context.Background(), lastSeconds)
+		last, cancel := context.WithTimeout(context.Background(), lastLimit)
 		defer cancel()
 		_ = its.http.Shutdown(last)
 	}

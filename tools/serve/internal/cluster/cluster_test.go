@@ -39,3 +39,22 @@ process = [{processid = "p-0", machineid = 'm', zoneid = "z_0"},
 		test.Errorf("%+v", found)
 	}
 }
+
+func TestNamesMayBeWrittenWithEscapes(test *testing.T) {
+	guard := file{
+		"processid": {"p-0": {0}, "p1": {1}},
+		"machineid": {"m0": {0}, "m1": {1}},
+		"zoneid":    {"z0": {0}, "z1": {1}},
+	}
+	text := `process = [{processid = "\u0070-0", machineid = "m\U00000030", zoneid = "z0"},
+{processid = """\
+    p\   
+  1""", machineid = "\u006D\u0031", zoneid = 'z1'}] # \uD800 \UFFFFFFFF \u00 \`
+	wanted := []Process{
+		{Number: 0, Name: "p-0", Machine: "m0", Zone: "z0"},
+		{Number: 1, Name: "p1", Machine: "m1", Zone: "z1"},
+	}
+	if found := Processes([]byte(text), guard); !reflect.DeepEqual(found, wanted) {
+		test.Errorf("%+v", found)
+	}
+}

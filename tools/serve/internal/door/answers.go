@@ -45,9 +45,9 @@ func (web *Web) act(writer http.ResponseWriter, request *http.Request) {
 		failOf(writer, err)
 		return
 	}
-	patience(request, bodySeconds)
+	patience(request, bodyLimit)
 	body, err := io.ReadAll(http.MaxBytesReader(writer, request.Body, mostLine))
-	patience(request, answerSeconds)
+	patience(request, answerLimit)
 	var tooLarge *http.MaxBytesError
 	switch {
 	case errors.As(err, &tooLarge):
@@ -185,7 +185,7 @@ func (web *Web) audit(writer http.ResponseWriter, request *http.Request) {
 	part := make([]byte, 1<<16)
 	for {
 		read, err := text.Read(part)
-		patience(request, answerSeconds)
+		patience(request, answerLimit)
 		if _, failed := writer.Write(part[:read]); failed != nil || err != nil {
 			return
 		}
@@ -199,7 +199,7 @@ func (web *Web) entries(writer http.ResponseWriter, request *http.Request, from 
 		if err != nil {
 			panic(http.ErrAbortHandler) // So that nobody takes it for all.
 		}
-		patience(request, answerSeconds)
+		patience(request, answerLimit)
 		if _, err := writer.Write(lines); err != nil {
 			return
 		}
@@ -278,7 +278,7 @@ func (web *Web) events(writer http.ResponseWriter, request *http.Request) {
 		case <-web.Book.Stopped():
 			return
 		case <-still.C:
-			patience(request, answerSeconds)
+			patience(request, answerLimit)
 			if _, err := io.WriteString(writer, ": still here\n\n"); err != nil {
 				return
 			}
@@ -316,13 +316,13 @@ func (web *Web) mayStay(request *http.Request) bool {
 func (web *Web) sendEvents(
 	writer http.ResponseWriter, request *http.Request, at, count int,
 ) (int, error) {
-	patience(request, answerSeconds)
+	patience(request, answerLimit)
 	for at < count {
 		lines, next, err := web.Book.Entries(at, count, enoughOutput)
 		if err != nil {
 			return at, err
 		}
-		patience(request, answerSeconds)
+		patience(request, answerLimit)
 		if _, err := writer.Write(eventsOf(lines, at)); err != nil {
 			return at, err
 		}

@@ -41,8 +41,8 @@ func (its *crowd) count() int {
 	return len(its.all)
 }
 
-// admit takes in one who comes, or answers nil. Where places are few, the one goes who has no token
-// and has asked nothing for the longest time.
+// admit takes in one who comes, or answers nil. Where places are few, one goes who has no token and
+// asks nothing.
 func (its *crowd) admit(connection net.Conn, most int, isEach bool) *guest {
 	its.lock.Lock()
 	defer its.lock.Unlock()
@@ -80,14 +80,25 @@ func (its *crowd) makeRoom(most int, address string) bool {
 	}
 }
 
-// idlest counts them, and finds the one who has asked nothing for the longest time.
+// idlest counts them, and finds the one who has asked nothing for the longest time: of an address,
+// or of that with the most who may go. So a crowd from elsewhere sends nobody away who is alone.
 func (its *crowd) idlest(address string) (count int, idle *guest) {
+	groups := map[string]int{}
 	for guest := range its.all {
 		if address != "" && (guest.address != address || guest.known) {
 			continue
 		}
 		count++
-		if guest.busy == 0 && !guest.known && (idle == nil || guest.still.Before(idle.still)) {
+		if guest.busy == 0 && !guest.known {
+			groups[guest.address]++
+		}
+	}
+	for guest := range its.all {
+		if guest.busy > 0 || guest.known || address != "" && guest.address != address {
+			continue
+		}
+		if idle == nil || groups[guest.address] > groups[idle.address] ||
+			groups[guest.address] == groups[idle.address] && guest.still.Before(idle.still) {
 			idle = guest
 		}
 	}

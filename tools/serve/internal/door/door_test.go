@@ -957,6 +957,20 @@ func TestAnAddressHasItsPart(test *testing.T) {
 	same(test, "who are connected", its.count(), 10)
 }
 
+func TestACrowdFromElsewhereSendsNobodyAwayWhoIsAlone(test *testing.T) {
+	var its crowd
+	comes := func(address string) *guest {
+		end, _ := net.Pipe()
+		return its.admit(from{end, address}, 16, true)
+	}
+	alone := comes("10.0.0.9:1")
+	for number := 0; number < 100; number++ {
+		comes(fmt.Sprintf("10.0.0.%d:%d", 1+number%3, number))
+	}
+	same(test, "who came first, and is alone, is there", its.all[alone], true)
+	same(test, "who are connected", its.count(), 14)
+}
+
 // from is a connection from an address.
 type from struct {
 	net.Conn

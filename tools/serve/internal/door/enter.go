@@ -102,7 +102,7 @@ func (web *Web) watch(request **http.Request) (ends func()) {
 	connection, _ := its.Context().Value(connectionKey{}).(net.Conn)
 	var clock *time.Timer
 	if connection != nil && its.ProtoMajor > 1 {
-		clock = time.AfterFunc(answerSeconds, func() { _ = connection.Close() })
+		clock = time.AfterFunc(answerLimit, func() { _ = connection.Close() })
 		*request = its.WithContext(context.WithValue(its.Context(), watchKey{}, clock))
 	}
 	guest := guestOf(its)

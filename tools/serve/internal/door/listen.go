@@ -15,8 +15,8 @@ import (
 )
 
 const (
-	// handshakeSeconds is how long a client may take to begin TLS.
-	handshakeSeconds = 5 * time.Second
+	// handshakeLimit is how long a client may take to begin TLS.
+	handshakeLimit = 5 * time.Second
 	// mostUnsent is how many bytes the system holds for a client that doesn't read. It would take
 	// some millions, which many such clients have made and copied before anybody else is served.
 	mostUnsent = 1 << 17
@@ -110,7 +110,7 @@ func (its *limited) greet() {
 // begin begins TLS with a client.
 func (its *limited) begin(guest *guest) {
 	connection := tls.Server(guest, its.certificate)
-	limit, cancel := context.WithTimeout(context.Background(), handshakeSeconds)
+	limit, cancel := context.WithTimeout(context.Background(), handshakeLimit)
 	defer cancel()
 	if err := connection.HandshakeContext(limit); err != nil {
 		var record tls.RecordHeaderError

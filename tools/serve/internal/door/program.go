@@ -15,8 +15,8 @@ import (
 	"time"
 )
 
-// programSeconds is how long the program may take for one answer, if nothing else is said.
-const programSeconds = 60 * time.Second
+// programLimit is how long the program may take for one answer, if nothing else is said.
+const programLimit = 60 * time.Second
 
 // Program is the command faultyard, which is called for what the library doesn't offer.
 type Program struct {
@@ -79,7 +79,7 @@ func (program *Program) patience() time.Duration {
 	if program.Patience > 0 {
 		return program.Patience
 	}
-	return programSeconds
+	return programLimit
 }
 
 // The first of the ExtraFiles of a command, and the next one.
@@ -153,7 +153,7 @@ func (web *Web) drawn(
 		}
 		return call(audit, times)
 	})
-	patience(request, answerSeconds)
+	patience(request, answerLimit)
 	if err != nil {
 		fail(writer, http.StatusServiceUnavailable, err.Error())
 		return

@@ -18,11 +18,11 @@ import (
 
 // The limits of what a client of the network may take.
 const (
-	mostHeader    = 16 << 10
-	headerSeconds = 5 * time.Second
-	bodySeconds   = 10 * time.Second
-	answerSeconds = 30 * time.Second
-	idleSeconds   = 60 * time.Second
+	mostHeader  = 16 << 10
+	headerLimit = 5 * time.Second
+	bodyLimit   = 10 * time.Second
+	answerLimit = 30 * time.Second
+	idleLimit   = 60 * time.Second
 )
 
 // Web answers requests of HTTP.
@@ -88,9 +88,9 @@ func (web *Web) Server(certificate *tls.Config) *http.Server {
 		Handler:           web,
 		TLSConfig:         certificate,
 		MaxHeaderBytes:    mostHeader,
-		ReadHeaderTimeout: headerSeconds,
-		ReadTimeout:       bodySeconds,
-		IdleTimeout:       idleSeconds,
+		ReadHeaderTimeout: headerLimit,
+		ReadTimeout:       bodyLimit,
+		IdleTimeout:       idleLimit,
 		ErrorLog:          log.New(nowhere{}, "", 0),
 		ConnContext: func(context_ context.Context, connection net.Conn) context.Context {
 			return context.WithValue(context_, connectionKey{}, connection)
@@ -113,7 +113,7 @@ func (web *Web) ServeHTTP(writer http.ResponseWriter, request *http.Request) {
 		}
 	}()
 	defer web.watch(&request)()
-	patience(request, answerSeconds)
+	patience(request, answerLimit)
 	header := its.Header()
 	header.Set("Cache-Control", "no-store")
 	header.Set("X-Content-Type-Options", "nosniff")
