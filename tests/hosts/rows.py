@@ -18,6 +18,8 @@ import unittest
 import uuid
 from pathlib import Path
 
+from faultyard_hooks import driver
+
 HERE = Path(__file__).resolve().parent
 ROOT = HERE.parent.parent
 NEMESIS = ROOT / "tests/nemesis"
@@ -299,6 +301,21 @@ class Kills(Case):
             self.assert_none_runs()
 
 
+class Words(unittest.TestCase):
+    def test_what_on_says(self):
+        units = driver("units -F file:h0,h1")
+        self.assertEqual((units.command, units.hosts), (["ssh", "-F", "file"], ("h0", "h1")))
+        self.assertEqual(driver("units:here").addresses(), [])
+        boxes = driver("containers sudo docker:localhost:5000/redis:7 h0,h1")
+        self.assertEqual((boxes.engine, boxes.image), ("sudo docker", "localhost:5000/redis:7"))
+        self.assertEqual((boxes.command, boxes.hosts), (["ssh"], ("h0", "h1")))
+        boxes = driver("containers:redis")
+        self.assertEqual((boxes.engine, boxes.image, boxes.addresses()), ("podman", "redis", []))
+        pods = driver("pods -n stores:p0,p1")
+        self.assertEqual(pods.command, ["kubectl", "-n", "stores"])
+        self.assertEqual(pods.reached(1, ["true"])[3:], ["exec", "-i", "p1", "--", "true"])
+
+
 class Refusals(Case):
     def refused(self, message, *words, names=Case.ALL, **more):
         self.out = self.room / str(len(list(self.room.iterdir())))
@@ -323,6 +340,14 @@ class Refusals(Case):
         self.refused(f"Clog is granted, and {away}", names=f"{self.NEEDED} kill empty")
         plain = f"{self.NEEDED} kill empty pause resume salvage plain"
         self.refused(f"`plain` is promised, and {away}", names=plain)
+
+    def test_drivers_say_what_they_cannot(self):
+        kinds = "ssh, units, containers, pods"
+        self.refused(f"--on vans:h0: vans is none of {kinds}", "--on", "vans:h0")
+        own = "--disks own needs a hook `power`: a unit has no power that could be cut"
+        self.refused(own, "--on", "units:here", "--disks", "own")
+        heeds = "--on units:here: these hooks have no `kill`, so they run nothing there"
+        self.refused(heeds, "--on", "units:here", names=self.NEEDED)
 
     def test_places(self):
         self.refused("--at has 2 places for 3 processes", "--at", "h0,h1")

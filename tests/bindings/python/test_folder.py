@@ -117,6 +117,44 @@ class FolderTest(common.Folder, unittest.TestCase):
             self.assertEqual(played(words, before_it)(after_it), -signal.SIGKILL)
             self.assertEqual(self.audit.read_bytes(), before)
 
+    def test_a_guard_that_died_begins_again_behind_its_audit(self):
+        """Also where it dies again and again, and in the middle of a call."""
+        with Guard(common.SIX, folder=self.run) as guard:
+            self.assertIs(kill_zone(guard, "z0"), Kind.KILL_INSTANTLY)
+            for turn in range(3):
+                os.kill(guard._transport._process.pid, signal.SIGKILL)
+                with self.assertRaises(faultyard.GuardEnded) as caught:
+                    guard.tick(1, by=0)
+                self.assertEqual((caught.exception.status, caught.exception.fault), (-9, ""))
+                with self.assertRaises(faultyard.GuardEnded):
+                    guard.tick(1, by=0)
+                guard.begin_again()
+                self.assertEqual(guard.tick(1, by=0), turn + 1)
+            self.assertIs(kill_zone(guard, "z1"), Kind.REBOOT)
+            self.assertEqual(self.audit.read_text(), guard.audit())
+        self.assertEqual(faultyard.check(common.SIX, self.audit.read_text()), 5)
+
+    def test_a_guard_that_hung_begins_again(self):
+        hangs = self.script(f'[ "$3" = --after ] || sleep 1000\nexec {common.PROGRAM} "$@"\n')
+        with Guard(common.SIX, folder=self.run) as guard:
+            guard._transport._words[0], guard._transport._timeout = str(hangs), 0.2
+            os.kill(guard._transport._process.pid, signal.SIGSTOP)
+            with self.assertRaises(faultyard.GuardEnded) as caught:
+                guard.tick(1, by=0)
+            self.assertIn("no answer in 0.2 seconds", str(caught.exception))
+            guard._transport._timeout = 60
+            guard.begin_again()
+            self.assertEqual(guard.tick(1, by=0), 1)
+        self.assertEqual(faultyard.check(common.SIX, self.audit.read_text()), 1)
+
+    def test_only_a_program_of_its_own_begins_again(self):
+        with Guard(common.SIX) as guard:
+            guard.tick(1, by=0)
+            guard.begin_again()  # though it lives
+            self.assertEqual(guard.tick(1, by=0), 2)
+        with self.assertRaises(faultyard.GuardClosed):
+            guard.begin_again()
+
     def test_half_a_last_line_is_refused_as_the_program_refuses_it(self):
         text = (common.HEADER + TICKS[0] + TICKS[1][:-1]).encode()
         self.audit.write_bytes(text)

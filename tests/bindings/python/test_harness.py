@@ -157,11 +157,11 @@ class LedgerTest(unittest.TestCase):
         self.ledger.destroy(1, self.guard.act(1, EMPTY.act()).at)
         self.ledger.destroy(1, self.guard.act(1, EMPTY.act()).at)
         self.assertEqual((self.ledger.mark, self.ledger.able), (5, {2}))
-        first, second = self.ledger.lost({})
+        first, second = self.ledger.lost({}, is_all=True)
         self.assertEqual(first[:1] + first[2:], ("a", 0, (0, 1, 2), (0, 1)))
         self.assertEqual(second[:1] + second[2:], ("b", 1, (1, 2), (1,)))
-        self.assertEqual(self.ledger.lost({"a": "v", "b": "other"}), [second])
-        self.assertEqual(self.ledger.lost({"a": "v", "b": "v", "c": "v"}), [])
+        self.assertEqual(self.ledger.lost({"a": "v", "b": "other"}, is_all=True), [second])
+        self.assertEqual(self.ledger.lost({"a": "v", "b": "v", "c": "v"}, is_all=True), [])
 
     def test_an_answer_to_a_write_from_before_a_loss_comes_too_late(self):
         early = self.ledger.send()
@@ -318,8 +318,11 @@ class HarnessTest(common.Folder, unittest.TestCase):
         self.assertEqual(
             harness.summary("x")[0].split(";")[0], "guarded, x: 2 orders, 1 lessened, 0 barred"
         )
-        self.assertEqual([it["does"] for it in events[3:]], ["RebootAndDelete", "Reboot"])
-        self.assertEqual([it["up"] for it in events[3:]], [[0, 1, 2], [0, 2]])
+        orders = [it for it in events if it["what"] == "order"]
+        self.assertEqual([it["does"] for it in orders], ["RebootAndDelete", "Reboot"])
+        self.assertEqual([it["up"] for it in orders], [[0, 1, 2], [0, 2]])
+        (destroyed,) = [it for it in events if it["what"] == "destroyed"]
+        self.assertEqual((destroyed["processes"], destroyed["of"]), ([1], orders[0]["entry"]))
         self.assertEqual([it["reply"] for it in events[:3]], [{"no": ["IsUp"]}] * 3)
         told = "RebootAndDelete p2 (p2)                 Reboot; the guard said"
         self.assertNotIn(told, harness.shown[1])
@@ -334,7 +337,7 @@ class HarnessTest(common.Folder, unittest.TestCase):
             "beyond the guard first: entry 4: the guard said Reboot, RebootAndDelete of p2 was done"
         )
         self.assertEqual(harness.summary("x")[1:], [beyond])
-        (lost,) = harness.lost({})
+        (lost,) = harness.lost({}, is_all=True)
         self.assertEqual((lost["able"], list(lost["destroyed_by"])), (["p0", "p1", "p2"], [3, 4]))
         self.assertIn("could be held by p0 p1 p2; destroyed later by entries 3 4", lost_line(lost))
 
@@ -395,6 +398,7 @@ class HarnessTest(common.Folder, unittest.TestCase):
         harness, events = self.played(play)
         wanted = [([1], Kind.REBOOT_AND_DELETE), ([2], Kind.REBOOT), ([1], Kind.REBOOT)]
         self.assertEqual(harness.done, wanted)
+        events = [it for it in events if it["what"] != "destroyed"]
         self.assertEqual([it["entry"] for it in events], [0, 1, 2, 3])
         self.assertEqual(events[1]["reply"], "done")
 
@@ -424,9 +428,10 @@ class HarnessTest(common.Folder, unittest.TestCase):
             harness.tell_ended(1, "crashed")
 
         harness, events = self.played(play)
-        self.assertEqual([it["what"] for it in events], ["order", "up", "heal", "crashed"])
-        self.assertEqual([it["reply"] for it in events[1:3]], ["done", "done"])
-        self.assertEqual(events[3]["reply"]["verdict"]["struck"], "Reboot")
+        whats = ["order", "destroyed", "up", "heal", "crashed"]
+        self.assertEqual([it["what"] for it in events], whats)
+        self.assertEqual([it["reply"] for it in events[2:4]], ["done", "done"])
+        self.assertEqual(events[4]["reply"]["verdict"]["struck"], "Reboot")
         self.assertEqual((harness.up, harness.ledger.able), (set(), {0, 1, 2}))
         self.assertEqual(len(harness.orders), 1)
 

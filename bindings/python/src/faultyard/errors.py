@@ -103,3 +103,12 @@ class AuditRefused(FaultyardError, ValueError):
         super().__init__(fault)
         self.fault = fault
         self.status = status
+
+
+class HistoryRefused(FaultyardError, ValueError):
+    """What is to be judged is no history of the audit. `status` is the program's exit status."""
+
+    def __init__(self, fault: str, status: int) -> None:
+        super().__init__(fault)
+        self.fault = fault
+        self.status = status

@@ -116,6 +116,9 @@ class Followed(Transport):
     def try_copy(self) -> Transport:
         raise NotOffered("try_copy asks for the transport 'library'")
 
+    def begin_again(self) -> None:
+        raise NotOffered("begin_again asks for the transport 'pipe'")
+
     def needed(self, process: int) -> Optional[int]:
         raise NotOffered("needed asks for the transport 'library'")
 

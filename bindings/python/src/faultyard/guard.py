@@ -342,6 +342,14 @@ class Guard:
         with self._lock:
             self._at_work().reset()
 
+    def begin_again(self) -> None:
+        """After `GuardEnded` the program is started again, behind all that it answered.
+
+        What it was asked as it ended has no entry. A `folder` goes on too. Only the pipe has it.
+        """
+        with self._lock:
+            self._at_work().begin_again()
+
     def try_copy(self) -> Guard:
         """A second guard with the same journal, to look ahead; each is closed.
 

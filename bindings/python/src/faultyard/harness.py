@@ -25,8 +25,9 @@ from typing import (
 
 from .cluster_file import ClusterFile
 from .enums import Key, Kind, Role
-from .errors import InvalidAct
+from .errors import GuardEnded, InvalidAct, NotOffered
 from .guard import Guard
+from .history import History
 from .ledger import Ledger, Lost
 from .plans import Order
 from .programs import StrPath
@@ -57,11 +58,13 @@ class Harness(ABC):
         unguarded: bool = False,
         show: Callable[[str], None] = print,
         clock: Callable[[], int] = time.monotonic_ns,
+        goes_on: bool = False,
     ) -> None:
         """`events` is a file that gets a line of JSON for whatever happens.
 
         `unguarded`: what was ordered is done, whatever the guard says. `show` takes a line for each
-        order. `clock` tells the time in nanoseconds.
+        order. `clock` tells the time in nanoseconds. `goes_on`: what the file has of a test that
+        died stays.
         """
         self.guard, self.file, self.ledger = guard, file, Ledger(guard, clock=clock)
         self.storage, self.fault = file.actor(Role.STORAGE), file.actor(Role.FAULT)
@@ -79,9 +82,14 @@ class Harness(ABC):
         """Is held while somebody asks, and does what is answered."""
         self.spawn: Spawn = asyncio.ensure_future
         """Begins what goes on beside, as a task: the end of a clog."""
+        self.history: Optional[History] = None
+        """Is told each entry, where a test keeps one for `faultyard.verdicts`."""
+        self.restarts: List[str] = []
+        """When the guard had died and was started again, and how it had ended."""
         self._show = show
         self._events = Path(events)
-        self._events.write_text("")
+        if not goes_on:
+            self._events.write_text("")
         self._over = asyncio.Event()
         self._clogs: List[Awaitable[None]] = []
         self._due: List[Entry] = []  # what others were answered, and isn't carried out yet
@@ -98,9 +106,12 @@ class Harness(ABC):
 
     def answered(self, entry: Entry, does: Optional[Kind]) -> None:
         """An entry was made, and nothing is done yet; each entry is told once, and none behind a
-        later one. `does` is what its targets get, which may be beyond what the guard said. A
-        subclass may keep it.
+        later one. `does` is what its targets get, which may be beyond what the guard said. The
+        history has it, if there is one.
         """
+        if self.history is not None:
+            done = {"does": does.value if does else None}
+            self.history.answered(entry.at, **({} if does is entry.struck else done))
 
     def show(self, text: str) -> None:
         """Shows a line, with its time."""
@@ -124,11 +135,45 @@ class Harness(ABC):
         The end of a clog is `ordered` unless its time is up: then a replay has it by that clog.
         """
         async with self.turn:
-            entry = self.guard.act(by, act)
+            entry = self._ask(by, act)
             self._take(entry)
             await self._carry_out_others()
             await self._carry_out(entry, ordered)
         return entry
+
+    def _ask(self, by: int, act: Act) -> Entry:
+        """Asks the guard. One that has died is started again behind its audit, and asked again."""
+        try:
+            return self.guard.act(by, act)
+        except GuardEnded as end:
+            try:
+                self.guard.begin_again()
+            except NotOffered:
+                raise end from None
+            entry, why = self.guard.act(by, act), str(end)
+        told = f"at {self.ledger.now():.2f} s before entry {entry.at}: {why}"
+        self.restarts.append(told)
+        self.note("guard", told=told)
+        self.show(f"the guard was started again: {why}")
+        return entry
+
+    def catch_up(self, entry: Entry) -> None:
+        """Takes note of what was answered as a test died, of whose processes none runs now."""
+        order, does = Order.of(entry.act), self._does(entry)
+        if self.history is not None and entry.at > self.history.last_entry:
+            self.answered(entry, does)
+        if order is None:
+            ((name, members),) = entry.act.items()
+            process = {"process": members["process"]} if "process" in members else {"by": entry.by}
+            more = {"act": entry.act, "entry": entry.at, "reply": entry.told}
+            self.note(name, **process, **more)
+            if name == "heal" and members["process"] in self.ledger.destroyed:
+                self.ledger.heal(members["process"], entry.at)
+            return
+        processes = self._note_order(order, entry)
+        if does is not None and does.is_final:
+            self.gone.update(processes)
+        self.destroyed(processes if does is not None and does.empties_disk else [], entry.at)
 
     async def follow(self) -> None:
         """Does what others are answered by a guard that is served, until it is cancelled."""
@@ -166,7 +211,8 @@ class Harness(ABC):
             self._lasting.pop(target, None)
             await self.clog(self.targets(*target), False)
 
-    async def _do(self, order: Order, entry: Entry) -> None:
+    def _note_order(self, order: Order, entry: Entry) -> List[int]:
+        """Notes an order and what is done for it; whom it is about."""
         said, does = entry.struck, self._does(entry)
         processes = self.targets(order.key, order.value)
         event: Dict[str, Any] = {
@@ -189,6 +235,10 @@ class Harness(ABC):
         self.orders.append(event)
         self.note("order", **event)
         self.show(self._told(event))
+        return processes
+
+    async def _do(self, order: Order, entry: Entry) -> None:
+        processes, does = self._note_order(order, entry), self._does(entry)
         self.order = order
         if does is Kind.CLOG:
             await self.clog(processes, True)
@@ -199,8 +249,14 @@ class Harness(ABC):
             if does.is_final:
                 self.gone.update(processes)
             await self.strike(processes, does)
-            for process in processes if does.empties_disk else []:
-                self.ledger.destroy(process, entry.at)
+            self.destroyed(processes if does.empties_disk else [], entry.at)
+
+    def destroyed(self, processes: Sequence[int], entry: int) -> None:
+        """They have nothing any more."""
+        for process in processes:
+            self.ledger.destroy(process, entry)
+        if processes:
+            self.note("destroyed", processes=list(processes), of=entry)
 
     def _told(self, event: Mapping[str, Any]) -> str:
         """An order and what was done, as a line."""
@@ -249,7 +305,7 @@ class Harness(ABC):
         """Tells the guard, by which entry; not before the beginning, when it takes all for up."""
         if not self.ledger.has_begun():
             return None
-        entry = self.guard.act(by, act)
+        entry = self._ask(by, act)
         self._take(entry)
         self.note(what, process=process, entry=entry.at, reply=entry.told)
         return entry.at
@@ -277,11 +333,11 @@ class Harness(ABC):
             said, done = beyond["verdict"] or "no", f"{beyond['does']} of {beyond['value']}"
             entry = f"beyond the guard first: entry {beyond['entry']}"
             lines.append(f"{entry}: the guard said {said}, {done} was done")
-        return lines
+        return lines + [f"the guard was started again {it}" for it in self.restarts]
 
-    def lost(self, found: Mapping[str, str]) -> List[Dict[str, Any]]:
-        """The records that are lost, with the names of who could hold each."""
-        return [self.named(it) for it in self.ledger.lost(found)]
+    def lost(self, found: Mapping[str, Optional[str]], *, is_all: bool) -> List[Dict[str, Any]]:
+        """The records that are lost by `Ledger.lost`, with the names of who could hold each."""
+        return [self.named(it) for it in self.ledger.lost(found, is_all=is_all)]
 
     def named(self, lost: Lost) -> Dict[str, Any]:
         """A lost record with the names of who could hold it."""

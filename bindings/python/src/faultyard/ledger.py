@@ -81,6 +81,15 @@ class Ledger:
         """Time goes on from 0."""
         self._began = self._clock()
 
+    def go_on(self, at_ns: int, sent: int, mark: int) -> None:
+        """Time goes on from there, behind a test that died.
+
+        So many writes were sent, and no answer to them counts any more.
+        """
+        self._began = self._clock() - at_ns
+        self._sent = self._late = sent
+        self.mark = mark
+
     def stop(self) -> None:
         """No more is written."""
         self._stopped = self.now()
@@ -135,10 +144,20 @@ class Ledger:
         self.heals.append(Heal(process, self.now(), entry))
         self.able.add(process)
 
-    def lost(self, found: Mapping[str, str]) -> List[Lost]:
-        """The records that aren't among those that were found."""
-        lacks = (key for key, record in self.records.items() if found.get(key) != record.value)
-        return [self.loss_of(key) for key in lacks]
+    def lost(self, found: Mapping[str, Optional[str]], *, is_all: bool) -> List[Lost]:
+        """The records that are lost by an answer of the store: what each key has, or None.
+
+        `is_all`: the store answered, by a read that can't lag, and these are all its keys. Else a
+        key that it doesn't tell is none that is lost: `unknown` has it. A `faultyard.history` and
+        `faultyard.verdicts.judge` say more: who told what when, and whose fault it is.
+        """
+        told = self.records.keys() if is_all else self.records.keys() & found.keys()
+        its = ((key, record) for key, record in self.records.items() if key in told)
+        return [self.loss_of(key) for key, record in its if found.get(key) != record.value]
+
+    def unknown(self, found: Mapping[str, Optional[str]]) -> List[str]:
+        """The records of which an answer that isn't all of the store tells nothing."""
+        return [key for key in self.records if key not in found]
 
     def loss_of(self, key: str) -> Lost:
         """An acknowledged record that is lost."""

@@ -12,7 +12,7 @@ from typing import Tuple
 from .acts import large, line, number
 from .enums import Key, Kind, Part, Plan, Refusal, Rule
 from .errors import AuditRefused, ConfigRefused, FaultyardError, GuardClosed, InvalidAct
-from .errors import JournalFull, NotFound, OutOfMemory, ProtocolError
+from .errors import JournalFull, NotFound, NotOffered, OutOfMemory, ProtocolError
 from .programs import StrPath
 from .replies import Begun, Done, Formed, Marked, Refused, Reply, Ruling, Sent, Stored, Synced
 from .replies import Time, Verdict, read_entry
@@ -507,6 +507,9 @@ class Library(Transport):
 
     def reset(self) -> None:
         _require(self._library.fy_reset(self._opened()))
+
+    def begin_again(self) -> None:
+        raise NotOffered("begin_again asks for the transport 'pipe'")
 
     def try_copy(self) -> Library:
         other = Library(self._library)

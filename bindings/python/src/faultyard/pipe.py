@@ -52,30 +52,48 @@ class Pipe(Followed):
             with open(after, "rb") as file:
                 before = file.read()
         self._timeout = timeout
-        self._pending = b""
-        self._end: Optional[GuardEnded] = None
-        words = [find_program(program), "guard", os.fspath(config)]
-        words += [] if after is None else ["--after", os.fspath(after)]
+        self._folder = folder
+        self._words = [find_program(program), "guard", os.fspath(config)]
         self._files = ExitStack()
         try:
             self._open_files(folder, before)
-            # In a session of its own, Ctrl-C at a terminal ends the test and not its guard.
-            self._process = subprocess.Popen(
-                words,
-                stdin=subprocess.PIPE,
-                stdout=subprocess.PIPE,
-                stderr=self._errors,
-                bufsize=0,
-                start_new_session=True,
-            )
+            self._start(after)
         except BaseException:
             self._files.close()
             raise
+        self._begin(before, after is None)
+
+    def _start(self, after: Optional[StrPath]) -> None:
+        """Starts the program, behind an audit if there is one."""
+        self._pending = b""
+        self._end: Optional[GuardEnded] = None
+        self._said = self._errors.seek(0, os.SEEK_END)
+        # In a session of its own, Ctrl-C at a terminal ends the test and not its guard.
+        self._process = subprocess.Popen(
+            self._words + ([] if after is None else ["--after", os.fspath(after)]),
+            stdin=subprocess.PIPE,
+            stdout=subprocess.PIPE,
+            stderr=self._errors,
+            bufsize=0,
+            start_new_session=True,
+        )
         self._finalizer = weakref.finalize(self, _kill, self._process, os.getpid())
         assert self._process.stdin is not None and self._process.stdout is not None
         self._stdin, self._stdout = self._process.stdin, self._process.stdout
         os.set_blocking(self._stdin.fileno(), False)
-        self._begin(before, after is None)
+
+    def begin_again(self) -> None:
+        self._abandon("it is begun again")
+        journal = self.audit()
+        # It is read by the time the first act is answered.
+        audit = self._files.enter_context(tempfile.NamedTemporaryFile(prefix="faultyard-"))
+        audit.write(journal)
+        audit.flush()
+        if self._folder is not None:
+            self._kept = Kept(self._folder, journal)
+            self._files.callback(self._kept.close)
+        self._start(audit.name)
+        self._begin(journal, False)
 
     def _open_files(self, folder: Optional[StrPath], before: bytes) -> None:
         if folder is None:
@@ -83,7 +101,8 @@ class Pipe(Followed):
             return
         self._kept = Kept(folder, before)
         self._files.callback(self._kept.close)
-        self._errors = self._files.enter_context(open(os.path.join(folder, "guard.log"), "w+b"))
+        mode = "w+b" if before == HEADER else "a+b"
+        self._errors = self._files.enter_context(open(os.path.join(folder, "guard.log"), mode))
 
     def _begin(self, before: bytes, has_header: bool) -> None:
         """Reads the header, which a new guard writes before anything is sent."""
@@ -182,7 +201,7 @@ class Pipe(Followed):
         self._stdout.close()
         if self._kept is not None:
             self._kept.close()
-        self._errors.seek(0)
+        self._errors.seek(self._said)
         # A second line says where an audit that is cut is whole.
         fault = self._errors.read(MOST_FAULT).decode(errors="replace").strip().partition("\n")[0]
         self._end = GuardEnded(why, fault, status)

@@ -176,5 +176,9 @@ class Transport(ABC):
         """The header and the line of each entry."""
 
     @abstractmethod
+    def begin_again(self) -> None:
+        """Starts the program again that has ended, behind all that it answered."""
+
+    @abstractmethod
     def close(self) -> None:
         """Ends the guard. What `audit` and `journal_len` answer stays."""

@@ -30,26 +30,32 @@ Answer = TypeVar("Answer")
 MORE = {"?": "?"}  # among what `salvage` returns: there may be more, which it couldn't read
 _user: Dict[str, Any] = {}  # as whom commands run, if not as who runs the hook
 HOOKS = "setup start ready join leave elect pause resume whole write check get read salvage".split()
-HOOKS += "kill empty fetch power cut mend".split()
+HOOKS += "kill empty fetch power cut mend name".split()
 # What stands in a module of its own.
 ELSEWHERE = {
     "Amqp": "amqp",
     "Client": "client",
     "clients": "client",
+    "Containers": "containers",
     "electing": "one_primary",
     "Http": "http",
     "JsonRpc": "jsonrpc",
     "Nats": "nats",
     "Ovsdb": "ovsdb",
     "Piped": "piped",
+    "Places": "places",
+    "Pods": "pods",
     "Postgres": "postgres",
     "primary": "one_primary",
     "record_in": "files",
     "records_in": "files",
     "Resp": "resp",
     "Ssh": "ssh",
+    "Units": "units",
     "ZooKeeper": "zookeeper",
 }
+# What `--on` begins with, and whose word it is.
+DRIVERS = {"ssh": "Ssh", "units": "Units", "containers": "Containers", "pods": "Pods"}
 
 
 def __getattr__(name: str) -> Any:
@@ -87,6 +93,7 @@ HOSTS = ["127.0.0.1"] * COUNT
 if sys.argv[1:2] not in (["setup"], ["salvage"]):  # which run processes beside the tool
     HOSTS = _told("FY_HOSTS", "").split() or HOSTS
 ABLE = [int(number) for number in _told("FY_ABLE", "").split()]
+RESUMED = _told("FY_RESUMED") == "1"  # the run had died, and is gone on with
 
 
 def port(n: int, which: int = 0) -> int:
@@ -139,6 +146,8 @@ def main(*promises: str, user: str = "", on: Any = None) -> None:
     """
     given = vars(sys.modules["__main__"])
     hooks = {name: given[name] for name in HOOKS if name in given}
+    if RESUMED and "setup" in hooks:
+        hooks["setup"] = lambda: None  # the store was prepared when the run began
     hooks.setdefault("ready", is_reachable)
     on = on or driver(_told("FY_ON", ""))
     if on:
@@ -168,9 +177,10 @@ def driver(text: str) -> Any:
     """What `--on` says: the driver by which processes are elsewhere; None where it says nothing."""
     if not text:
         return None
-    from .ssh import Ssh
-
-    return Ssh.of(text)
+    kind = text.replace(":", " ").split()[0]
+    if kind not in DRIVERS:
+        raise ValueError(f"{kind} is none of {', '.join(DRIVERS)}")
+    return __getattr__(DRIVERS[kind]).of(text)
 
 
 def _end(result: Any) -> None:

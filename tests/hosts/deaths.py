@@ -1,0 +1,239 @@
+"""A run by ssh whose tool, guard, ssh or sshd is killed at random moments, while hosts are cut off
+and processes destroyed: it goes on, or `--resume` goes on with it, and it ends with its verdict.
+
+HOSTS_DEATHS says how many moments there are, 5 without it, and HOSTS_FIRST the first of them.
+"""
+import json
+import os
+import random
+import re
+import subprocess
+import time
+import unittest
+
+from by_ssh import HOSTS, LAB, ROOT, TOOL, Case, killed, those
+from rows import NEMESIS
+
+
+DEATHS, FIRST = (int(os.environ.get(f"HOSTS_{it}", n)) for it, n in (("DEATHS", 5), ("FIRST", 0)))
+THREE = HOSTS[:3]
+SECONDS = 8  # for which each run writes
+VICTIMS = ("tool", "guard", "ssh", "sshd", "tool")
+
+
+def wait_until(what, holds):
+    """Waits for as long as that takes; the suite's own limit ends it."""
+    while not holds():
+        time.sleep(0.02)
+
+
+def tables(hosts=THREE):
+    """The tables of nftables that hosts have, by their networks."""
+    found = []
+    for host in hosts:
+        pid = (LAB / host / "pid").read_text().strip()
+        words = ["nsenter", f"--net=/proc/{pid}/ns/net", "nft", "list", "tables"]
+        ran = subprocess.run(words, capture_output=True, text=True, check=True)
+        found += [f"{host} {line}" for line in ran.stdout.splitlines()]
+    return found
+
+
+def hears(receiver, sender):
+    """Whether a host is answered by another: a port where nobody listens is refused at once."""
+    pid = (LAB / sender / "pid").read_text().strip()
+    at = f"10.77.0.1{receiver[1:]}"
+    ask = ["timeout", "2", "bash", "-c", f"< /dev/tcp/{at}/9"]
+    ran = subprocess.run(
+        ["nsenter", f"--net=/proc/{pid}/ns/net", *ask], stderr=subprocess.DEVNULL, check=False
+    )
+    return ran.returncode == 1
+
+
+class Lab(Case):
+    """etcd on three machines."""
+
+    def start(self, *words):
+        on = f"ssh -F {LAB}/ssh_config:{','.join(THREE)}"
+        store = [NEMESIS / "three.toml", ROOT / "examples/etcd/hooks", "--on", on]
+        return self.begun(*store, "--out", self.out, "--net", *words)
+
+    def begun(self, *words):
+        command = list(map(str, [*TOOL, *words]))
+        pipe = subprocess.PIPE
+        more = {"stdout": pipe, "stderr": pipe, "text": True, "cwd": self.room}
+        running = subprocess.Popen(command, **more)
+        self.addCleanup(running.kill)
+        return running
+
+    def faults(self, dice, seconds):
+        """A file of events: kills, clogs and partitions, drawn."""
+        path, lines, t = self.room / f"{self.out.name}.jsonl", [], 1.0
+        while t < seconds:
+            number = dice.randrange(3)
+            base = {"t": round(t, 3), "key": "processid", "value": f"p{number}"}
+            kind = dice.choice(["RebootAndDelete", "Reboot", "RebootProcess", "cut", "cut"])
+            clogged = dice.choice([1, 3])
+            if kind == "cut":
+                others = [it for it in range(3) if it != number]
+                cuts = [[number, it] for it in others] + [[it, number] for it in others]
+                more = {"what": "partition", "shape": "one", "cuts": cuts}
+            else:
+                more = {"what": "order", "order": kind}
+            lines.append(base | more | {"clogged": clogged})
+            t += dice.choice([0.5, 1, 2])
+        path.write_text("".join(json.dumps(line) + "\n" for line in lines))
+        return path
+
+    def assert_all_over(self):
+        """Nothing runs that was started, and nothing is cut; for how long that was otherwise."""
+        began = time.monotonic()
+        wait_until("the end of all", lambda: not self.left() and not tables())
+        return time.monotonic() - began
+
+
+class Cuts(Lab):
+    PATIENT = ("--hook-timeout", 60, "--quiet")
+
+    def cut_off(self, seconds):
+        """A run in which p0 is cut off for long, once that is so."""
+        path = self.room / "given.jsonl"
+        cuts = [[0, 1], [1, 0], [0, 2], [2, 0]]
+        order = {"t": 1, "what": "partition", "shape": "one", "clogged": seconds, "cuts": cuts}
+        path.write_text(json.dumps(order) + "\n")
+        running = self.start("--seconds", seconds + 5, "--replay", path, *self.PATIENT)
+        wait_until("the cut", lambda: running.poll() is not None or len(tables()) == 3)
+        wait_until("all of it", lambda: not hears("h0", "h1") and not hears("h2", "h0"))
+        self.assertTrue(hears("h1", "h2"))
+        return running
+
+    def test_a_cut_lasts_and_is_mended(self):
+        """It is renewed for longer than a lease, and ssh goes through all the time."""
+        running = self.cut_off(25)
+        time.sleep(15)
+        self.assertEqual((hears("h0", "h1"), len(tables())), (False, 3))
+        told = self.ended(running, 0)
+        self.assertRegex(told, r"1 partitions: .*\n(.*\n)*[1-9]\d* acknowledged: \d+ kept, 0 lost")
+        self.assertEqual(tables(), [])
+
+    def test_a_cut_ends_by_itself_where_the_tool_is_killed(self):
+        running = self.cut_off(60)
+        running.kill()
+        running.communicate()
+        self.assert_all_over()
+        self.assertTrue(hears("h0", "h1") and hears("h2", "h0"))
+
+    def test_an_interrupt_mends_it(self):
+        running = self.cut_off(60)
+        running.terminate()
+        self.assertEqual(running.wait(), 128 + 15)
+        self.assertEqual(tables(), [])
+        self.assert_nothing_left()
+
+
+class Cables(Lab):
+    """A cable is pulled, and then its host is struck: that is done once the host says so."""
+
+    def pulled(self, *words):
+        """A run that has ordered p1 to be emptied, whose host can't be reached."""
+        path = self.room / "given.jsonl"
+        order = {"t": 1, "what": "order", "key": "processid", "value": "p1"}
+        path.write_text(json.dumps(order | {"order": "RebootAndDelete"}) + "\n")
+        running = self.start("--seconds", 6, "--replay", path, "--quiet", *words)
+        self.addCleanup(self.cable, "up")
+        wait_until("the beginning", lambda: running.poll() is not None or self.events("ready"))
+        self.cable("down")
+        wait_until("the order", lambda: running.poll() is not None or self.events("order"))
+        return running
+
+    def cable(self, state):
+        subprocess.run(["ip", "link", "set", "vh1", state], check=True)
+
+    def assert_not_struck(self):
+        self.assertEqual(self.events("killed") + self.events("destroyed"), [])
+        self.assertTrue(those(r"^(\S*/)?etcd --name p1 "))
+
+    def test_it_counts_as_struck_once_the_host_says_so(self):
+        running = self.pulled("--hook-timeout", 60)
+        time.sleep(5)
+        self.assert_not_struck()
+        self.cable("up")
+        told = self.ended(running, 0)
+        self.assertRegex(told, r"\n([1-9]\d*) acknowledged: \1 kept, 0 lost")
+        self.assertEqual([it["processes"] for it in self.events("killed")], [[1]])
+        (destroyed,), (order,) = self.events("destroyed"), self.events("order")
+        self.assertEqual((destroyed["processes"], destroyed["of"]), ([1], order["entry"]))
+        self.assertGreaterEqual(destroyed["t"], order["t"] + 5)
+
+    def test_what_never_said_so_is_not_destroyed_and_nobody_is_blamed(self):
+        running = self.pulled("--hook-timeout", 5)
+        told, said = running.communicate()
+        self.assertEqual(running.returncode, 3, told + said)
+        self.assertIn("it was asked for 30 seconds, and may be done or not", told + said)
+        self.assertIn("p1 may still run where it is", told)
+        self.assert_not_struck()
+        self.assertFalse((self.out / "lost.jsonl").exists())
+        self.cable("up")
+        again = self.begun("--resume", self.out, "--hook-timeout", 60)
+        told, said = again.communicate()
+        self.assertEqual(again.returncode, 0, told + said)
+        self.assert_all_over()
+        self.assertEqual([it["processes"] for it in self.events("destroyed")], [[1]])
+        self.assertRegex(told, r"\n([1-9]\d*) acknowledged: \d+ kept, 0 lost, 0 missing")
+
+
+class Deaths(Lab):
+    def test_whatever_dies_the_run_ends_with_its_verdict(self):
+        longest = 0.0
+        for turn in range(FIRST, FIRST + DEATHS):
+            victim = VICTIMS[turn % len(VICTIMS)]
+            with self.subTest(turn=turn, victim=victim):
+                self.out = self.room / f"death-{turn}"
+                lasted = self.one(victim, random.Random(f"death {turn}"))
+                longest = max(longest, lasted)
+                print(f"death {turn}, of {victim}: all was over after {lasted:.1f} s", flush=True)
+        print(f"{DEATHS} deaths: all was over after {longest:.1f} s at most", flush=True)
+
+    def one(self, victim, dice):
+        faults = self.faults(dice, SECONDS)
+        words = ("--seconds", SECONDS, "--replay", faults, "--hook-timeout", 30, "--quiet")
+        running = self.start(*words, "--writers", 1, "--readers", 0)  # few are judged soon
+        try:
+            return self.died(victim, dice, running)
+        finally:
+            running.kill()  # else it would go on beside the next
+
+    def died(self, victim, dice, running):
+        wait_until("the beginning", lambda: running.poll() is not None or self.events("ready"))
+        time.sleep(dice.uniform(0, SECONDS))
+        getattr(self, victim)(running)
+        told, said = running.communicate()
+        lasted = self.assert_all_over()
+        status = running.returncode
+        if victim == "guard" and "guard was started again" not in told:
+            self.assertEqual(status, 0, told + said)  # it died after its last answer
+        for _ in range(3):
+            if status == 0:
+                break
+            again = self.begun("--resume", self.out, "--quiet")
+            told, said = again.communicate()
+            status = again.returncode
+            lasted = max(lasted, self.assert_all_over())
+        self.assertEqual(status, 0, told + said)
+        self.assertRegex(told, r"[1-9]\d* acknowledged: \d+ kept, 0 lost, 0 missing")
+        return lasted
+
+    def tool(self, running):
+        running.kill()
+
+    def guard(self, running):
+        killed(those(rf"faultyard guard {re.escape(str(NEMESIS))}"))
+
+    def ssh(self, running):
+        killed(those(rf"^ssh .*{self.room}"))
+
+    def sshd(self, running):
+        killed(those(r"^sshd: (root|.*/h[012]/sshd_config)"))
+
+
+if __name__ == "__main__":
+    unittest.main()
