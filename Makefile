@@ -149,12 +149,27 @@ nemesis-aborts:
 	tests/nemesis/run --aborts 100 bin/faultyard real.Aborts
 	tests/power/run --aborts 100 bin/faultyard Aborts
 
+## kills the tool of a run by ssh, its guard, ssh or sshd at a hundred moments: each run ends with
+## its verdict; takes over half an hour, and has to be root
+nemesis-deaths:
+	HOSTS_DEATHS=100 tests/hosts/run bin/faultyard deaths by_units by_pods by_containers
+
 ## kills `faultyard-serve` a hundred times while a nemesis and two testers ask it over an etcd of
 ## five, and sends it a hundred thousand wrong requests; takes a quarter of an hour
 serve-many: build lib
 	tests/serve/many bin/faultyard bin/faultyard-serve
 	tests/serve/run --kills 100 --requests 100000 bin/faultyard bin/libfaultyard.a \
 		test_serve.Crashes test_http.Wrong
+
+## cuts the power of its disk a hundred times while clients of both doors ask it with keys: no act
+## may be lost, and none made twice; needs libfuse3-dev
+serve-power: build lib
+	tests/serve/run --cuts 100 bin/faultyard bin/libfaultyard.a test_power.Power
+
+## has a hundred hostile clients beset `faultyard-serve` for an hour, beside a nemesis and two
+## testers that are timed; then no answer may be lost, and its memory has to be flat
+serve-hour: build lib
+	tests/serve/hour bin/faultyard bin/faultyard-serve
 
 ## times `faultyard-serve` beside the pipe of `guard` and a server that echoes; needs a machine with
 ## nothing else to do

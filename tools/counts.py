@@ -62,14 +62,15 @@ ROWS = (
     *(f"barred by {rule}" for rule in RULES),
     *(f"refused: {refusal}" for refusal in REFUSALS),
     *(f"replied: {reply}" for reply in REPLIES),
+)
+OF_CLUSTERS = (
     "records begun",
     "records acknowledged",
     "outlived the loss of a holder",
     "outlived the loss of all holders but one",
 )
-OF_STORES = tuple(
-    f"records {verdict}" for verdict in "kept lost missing stale unreadable wrong".split()
-)
+# What is said of a store's records, which its audit knows nothing of.
+OF_STORES = tuple("acknowledged kept lost missing stale unreadable wrong".split())
 Reply = dict[str, Any]
 
 
@@ -218,9 +219,7 @@ def judged(folder: Path) -> Counter[str]:
     if not path.is_file():
         return Counter()
     told = json.loads(path.read_text().splitlines()[-1])
-    counts = Counter({row: told[row.removeprefix("records ")] for row in OF_STORES})
-    counts["records acknowledged"] = told["acknowledged"]
-    return counts
+    return Counter({f"judged {it}": told[it] for it in OF_STORES})
 
 
 def processes_of(config: str) -> list[dict[str, str]]:
@@ -251,8 +250,10 @@ def table(ran: str, wanted: str) -> int:
         counts.update(json.loads(held))
     rows = [(f"seeds done, of {wanted}", str(seeds)), ("bad", str(bad))]
     rows += [(row, str(counts[row])) for row in ROWS]
-    if any(counts[row] for row in OF_STORES):
-        rows += [(row, str(counts[row])) for row in OF_STORES]
+    if any(counts[f"judged {it}"] for it in OF_STORES):
+        rows += [(f"records {it}", str(counts[f"judged {it}"])) for it in OF_STORES]
+    else:
+        rows += [(row, str(counts[row])) for row in OF_CLUSTERS]
     rows += [
         (f"seconds in {ran}, each alone", f"{sum(run for run, _ in times) / 1e6:.1f}"),
         ("seconds in check, each alone", f"{sum(check for _, check in times) / 1e6:.1f}"),

@@ -40,7 +40,8 @@ JOINS = "STORE_JOINS" in os.environ  # `join` copies, so `whole` only looks
 HOSTS = os.environ["FY_HOSTS"].split()
 NET = os.environ.get("STORE_NET", "")  # a network in which each server has an address of its own
 WAITS = float(os.environ.get("STORE_WAITS", 1))  # seconds until a server is given up
-PAUSE = 0.004  # seconds that a write takes at least: with too many records hooks take too long
+# Seconds that a write takes at least: with too many records hooks take too long.
+PAUSE = float(os.environ.get("STORE_PAUSE", 0.004))
 Records = dict[str, str]
 
 

@@ -23,8 +23,9 @@ import os
 import shutil
 import signal
 from asyncio.subprocess import PIPE
-from collections.abc import AsyncIterator, Awaitable, Callable, Mapping, Sequence
+from collections.abc import AsyncIterator, Awaitable, Callable, Iterable, Mapping, Sequence
 from contextlib import asynccontextmanager, suppress
+from dataclasses import dataclass
 from functools import partial
 from pathlib import Path
 from random import Random
@@ -48,6 +49,22 @@ class Answer(NamedTuple):
     number: int  # for which member
     key: str
     told: str
+
+
+class Told(NamedTuple):
+    """What `read` told."""
+
+    began: float
+    found: list[Pair]
+
+
+@dataclass
+class Outage:
+    """A time in which a member didn't have what it should have."""
+
+    number: int
+    began: float  # when it was killed, whose folder was emptied then
+    healed: float | None = None  # when `whole` said yes of it
 
 
 class Mode:
@@ -211,14 +228,15 @@ class Wrong(Mode):
 
 
 class Twice(Mode):
-    """`read` prints each so-manyth key twice: with its value, then with that or another one."""
+    """`read` prints each so-manyth key twice: with its value, and with that or another one behind
+    or before it."""
 
-    def __init__(self, every: int, other: str | None = None) -> None:
-        self.every, self.other = every, other
+    def __init__(self, every: int, other: str | None = None, is_before: bool = False) -> None:
+        self.every, self.other, self.is_before = every, other, is_before
 
     def prints(self, found: list[Pair]) -> list[Pair]:
         again = [(key, self.other or value) for key, value in found if is_nth(key, self.every)]
-        return found + again
+        return again + found if self.is_before else found + again
 
 
 class Partial(Mode):
@@ -334,6 +352,12 @@ class Member:
 
     def all(self) -> dict[str, str]:
         return dict(self.records)
+
+    def lose(self, keys: Iterable[str]) -> None:
+        """It had these, and has them nowhere any more."""
+        for key in keys:
+            self.records.pop(key, None)
+        self.toy.rewrite(self.number, self.records)
 
     def put(self, records: Mapping[str, str]) -> None:
         for key, value in records.items():
@@ -486,11 +510,19 @@ class Toy(Machine):
         self.acked: dict[str, str] = {}  # what `write` said ok of
         self.ok_at: dict[str, float] = {}  # when it did
         self.checked: list[Answer] = []  # what `check` told
-        self.read_last: list[Pair] | None = None  # what `read` told last
+        self.reads: list[Told] = []  # what `read` told
+        self.wrote_until = 0.0  # when the last `write` was ended
+        self.downs: dict[int, float] = {}  # when each member ended last
+        self.outages: list[Outage] = []  # of members that were started again
         self.salvaged: dict[int, list[Pair]] = {}  # what `salvage` told of each member
         self.calls: list[str] = []  # each call of a hook, in order
 
     # What is so.
+
+    @property
+    def read_last(self) -> list[Pair] | None:
+        """What `read` told last."""
+        return self.reads[-1].found if self.reads else None
 
     def log_of(self, number: int) -> Path:
         return self.folder / str(number) / "log"
@@ -506,11 +538,22 @@ class Toy(Machine):
         lines = (self.coded(line).split() for line in path.read_text("utf-8").splitlines())
         return {key: value for key, value in lines}
 
+    def rewrite(self, number: int, records: Mapping[str, str]) -> None:
+        """Has a member's log hold these records, and nothing else."""
+        lines = (self.coded(f"{key} {value}") for key, value in records.items())
+        self.log_of(number).write_text("".join(f"{line}\n" for line in lines), "utf-8")
+
     def coded(self, text: str) -> str:
         """A line as it stands in a log, and back."""
         for mode in self.modes:
             text = mode.line(text)
         return text
+
+    def note_outage(self, number: int) -> None:
+        """The folder of a member was emptied when it ended last."""
+        began = self.downs.get(number, self.began)
+        if not any(it.number == number and it.began == began for it in self.outages):
+            self.outages.append(Outage(number, began))
 
     def is_empty(self, number: int) -> bool:
         """Whether a member was emptied, and isn't whole since."""
@@ -622,14 +665,16 @@ class Toy(Machine):
         number, is_new = call.number, not self.log_of(call.number).exists()
         await asyncio.sleep(self.boots * self.dice.uniform(0.5, 1.0))
         member = Member(self, number, call.goes_on)
-        if is_new and now() > self.began + HANGS:
+        if is_new and number in self.downs:
             self.filling.add(number)
+            self.note_outage(number)
         self.members[number] = member
         try:
             lives = [it for mode in self.modes if (it := mode.lives(number)) is not None]
             await (asyncio.sleep(min(lives)) if lives else forever())
         finally:
             del self.members[number]
+            self.downs[number] = now()
             member.close()
         call.say("assertion failed: the sky is up")
         return 3
@@ -639,16 +684,19 @@ class Toy(Machine):
         return 0
 
     async def write(self, call: Call) -> int:
-        async for line in call.lines():
-            key, value = line.split()
-            told = f"ok {int(key[2:])}" if await self.stored(key, value) else "no"
-            answers = [told]
-            for mode in self.modes:
-                answers = [it for answer in answers for it in mode.answers(key, answer)]
-            if answers and answers[0].startswith("ok"):
-                self.acked[key], self.ok_at[key] = value, now()
-            for answer in answers:
-                call.print(answer)
+        try:
+            async for line in call.lines():
+                key, value = line.split()
+                told = f"ok {int(key[2:])}" if await self.stored(key, value) else "no"
+                answers = [told]
+                for mode in self.modes:
+                    answers = [it for answer in answers for it in mode.answers(key, answer)]
+                if answers and answers[0].startswith("ok"):
+                    self.acked[key], self.ok_at[key] = value, now()
+                for answer in answers:
+                    call.print(answer)
+        finally:
+            self.wrote_until = now()
         return 0
 
     async def stored(self, key: str, value: str) -> bool:
@@ -680,10 +728,10 @@ class Toy(Machine):
     async def read(self, call: Call) -> int:
         if not all(mode.reads(call.able) for mode in self.modes):
             return 1
-        found = [*(await self.everything(call.able)).items()]
+        began, found = now(), [*(await self.everything(call.able)).items()]
         for mode in self.modes:
             found = mode.prints(found)
-        self.read_last = found
+        self.reads.append(Told(began, found))
         for pair in found:
             call.print(" ".join(pair))
         return 0
@@ -699,14 +747,16 @@ class Toy(Machine):
         if lacks and not any(mode.is_whole() for mode in self.modes):
             return 1
         self.filling.discard(call.number)
+        for outage in self.outages:
+            if outage.number == call.number and outage.healed is None:
+                outage.healed = now()
         return 0
 
     async def join(self, call: Call) -> int:
         """Copies all that is left into an empty folder."""
+        self.note_outage(call.number)
         if self._copies():
-            lines = [f"{key} {value}" for key, value in (await self.everything(call.able)).items()]
-            text = "".join(f"{self.coded(line)}\n" for line in lines)
-            self.log_of(call.number).write_text(text, "utf-8")
+            self.rewrite(call.number, await self.everything(call.able))
         return 0
 
     async def salvage(self, call: Call) -> int:

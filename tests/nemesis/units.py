@@ -14,16 +14,16 @@ from unittest.mock import patch
 
 import clock
 from faultyard.enums import Kind
+from faultyard.history import History, Operation
+from faultyard.verdicts import Judged, Linear
 from nemesis import HOOK, Fault, checks, summary
 from nemesis.clients import Clients
 from nemesis.crashes import Crashes
 from nemesis.elsewhere import Elsewhere
-from nemesis.history import History, Operation
 from nemesis.hook_log import HookLog
 from nemesis.main import rising
 from nemesis.store import Store
 from nemesis.traces import traces
-from nemesis.verdicts import Judged, Linear
 
 KEY, VALUE = "r/000000001", "a"
 
@@ -121,11 +121,15 @@ class Summaries(unittest.TestCase):
         counts = {"keys": 7, "linearizable": 5, "not": 2, "operations": 30}
         lines = [{"key": "r/1"}, {"key": "r/2"}]
         text = "2 of 7 keys aren't linearizable, in 30 operations"
-        self.assertEqual(Linear(lines, counts).told(2), [f"{text}: r/1, r/2, in linear.jsonl"])
-        self.assertEqual(Linear(lines, counts).told(1), [f"{text}: r/1 .., in linear.jsonl"])
+        self.assertEqual(
+            summary.told_keys(Linear(lines, counts), 2), [f"{text}: r/1, r/2, in linear.jsonl"]
+        )
+        self.assertEqual(
+            summary.told_keys(Linear(lines, counts), 1), [f"{text}: r/1 .., in linear.jsonl"]
+        )
         text = "0 of 7 keys aren't linearizable, in 30 operations"
-        self.assertEqual(Linear([], counts).told(1), [text])
-        self.assertEqual(Linear().told(1), [])
+        self.assertEqual(summary.told_keys(Linear([], counts), 1), [text])
+        self.assertEqual(summary.told_keys(Linear(), 1), [])
 
     def test_a_run_says_why_it_tested_little(self):
         def told(*amount, is_control=False, **more):
@@ -271,7 +275,8 @@ class Histories(unittest.TestCase):
         self.assertEqual([it["value"] for it in begun], [[keys[n], None] for n in (0, 1, 2, 2, 3)])
         values = [[keys[0], None], [keys[1], VALUE], [keys[2], "x"], [keys[2], "y"], [keys[3], "z"]]
         self.assertEqual([it["value"] for it in ended], values)
-        self.assertEqual([it.get("times") for it in ended], [None] * 4 + [2])
+        # Each value of a key has how often the answer told the key.
+        self.assertEqual([it.get("times") for it in ended], [None, None, 2, 2, 2])
         self.assertEqual({it["node"] for it in begun + ended}, {None})
         self.assertEqual([it["process"] for it in begun], [it["process"] for it in ended])
         times = [it["time"] for it in lines]

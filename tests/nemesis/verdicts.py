@@ -8,13 +8,13 @@ in this file.
 import asyncio
 import unittest
 
+from faultyard.history import Operation
 from faultyard.ledger import Heal, Loss, Record
 from lab import Case, Ran, ran
 from nemesis.evidence import Case as Evidence
 from nemesis.evidence import Course, Left, unwritten
-from nemesis.history import Operation
-from toy import Call, Denies, Drops, DropsWhileEmpty, Forgetful, Hole, Invents, Lags, Old
-from toy import Partial, Quorum, Refuses, Shy, Toy, Twice, Unsynced, Wrong, ends, is_nth
+from toy import Call, Denies, Drops, Forgetful, Hole, Invents, Lags, Partial, Quorum, Refuses
+from toy import Shy, Toy, Twice, Unsynced, Wrong, ends, is_nth
 
 READERS = "start ready whole write read check salvage"
 KEY, VALUE = "r/000000001", "a"
@@ -107,19 +107,6 @@ class Stores(Case):
         self.assertIn("p1 lacks it by `check`", it.told)
         self.assertIn("and p0 p2 has it: the store lost it there", it.told)
 
-    def test_missing_where_a_process_serves_old_answers_for_ever(self):
-        """Its disk has all."""
-        toy = Toy(0, Old(2, 1.5), listed=READERS)
-        it, cases = self.judged(toy, 9, *self.given(), "--seconds", 3)
-        late = {
-            line["value"][0] for line in it.operations("read", "ok") if line["value"][1] is None
-        }
-        self.assertEqual({case["key"] for case in cases}, late & toy.acked.keys())
-        self.assertTrue(cases)
-        for case in cases:
-            self.assertIn("p2 lacks it by `check`", case["fault"])
-            self.assertEqual("p2" in case["holds"], case["key"] in toy.disk(2))
-
     def test_lost_where_no_disk_has_it(self):
         """The writes are answered, and never stored."""
         toy = Toy(0, Drops(1), listed=READERS)
@@ -129,22 +116,6 @@ class Stores(Case):
         self.assertEqual({case["fault"] for case in cases}, {f"{known}: the store lost it"})
         lacks = {name: ["check", "salvage"] for name in ("p0", "p1", "p2")}
         self.assertEqual(cases[0]["lacks"], lacks)
-
-    def test_what_is_dropped_while_another_is_destroyed_is_not_its_fault(self):
-        """p0 is destroyed, and healed later; what was acknowledged meanwhile it couldn't hold."""
-        toy = Toy(0, DropsWhileEmpty(0), listed=READERS, boots=1.0)
-        given = self.given((1, "p0", "RebootAndDelete"))
-        it, cases = self.judged(toy, 1, *given, "--seconds", 6)
-        healed = it.events("heal")[0]["t"]
-        disks = [toy.disk(number) for number in range(3)]
-        lost = {key for key in toy.acked if not any(key in disk for disk in disks)}
-        self.assertTrue(lost)
-        self.assertEqual({case["key"] for case in cases}, lost)
-        early = [case for case in cases if case["acked"] < healed]
-        self.assertGreater(len(early), len(cases) - 4)  # three may be answered as it is healed
-        for case in early:
-            self.assertEqual(case["able"], ["p1", "p2"])
-            self.assertTrue(case["fault"].startswith("one of p1 p2 held it"), case["fault"])
 
     def test_unreadable_and_what_the_disks_settle(self):
         """Two of three are killed for good beyond the guard, so that `read` has no quorum."""
@@ -235,7 +206,7 @@ class Stores(Case):
         self.assertIn("\n1 keys were read with a value that nobody wrote there\n", it.told)
         self.assertEqual(cases[0]["fault"], "`read` told abc, and nobody wrote that key")
 
-    def test_a_key_that_is_told_twice_counts_by_its_last_value(self):
+    def test_a_key_that_is_told_twice_is_kept_where_its_values_are_one(self):
         toy = Toy(0, Twice(5), listed=READERS)
         it, _ = self.judged(toy, 0, *self.given())
         self.assertEqual(it.counts["kept"], len(toy.acked))

@@ -7,11 +7,11 @@ from pathlib import Path
 from typing import TYPE_CHECKING
 
 from faultyard import Key, Kind
+from faultyard.history import Operation
 from faultyard.plans import PAUSES, Order
 
 from . import HOOK, USAGE, Fault, clock
 from .clients import Told, pairs
-from .history import Operation
 from .traces import traces
 
 if TYPE_CHECKING:

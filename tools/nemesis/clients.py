@@ -6,9 +6,9 @@ from contextlib import suppress
 from random import Random
 
 from faultyard.harness import Harness
+from faultyard.history import PREFIX, Client, History, Operation
 
 from . import HOOK, Fault, clock
-from .history import PREFIX, Client, History, Operation
 from .hook_log import MOST
 from .hooks import Hooks
 
@@ -35,10 +35,16 @@ class Clients:
         self._harness = harness
         self._acked: list[str] = []
         self.registers: list[str] = []  # keys that are written again and again
+        self.base = 0  # the number of the last key that was there before
+        self.marked: Callable[[int], None] = lambda mark: None  # is told the largest mark
 
     def begin_registers(self, count: int) -> None:
         """Before anything is written: the first keys are registers, the others records."""
-        self.registers = [key_of(self.ledger.send()) for _ in range(count)]
+        self.registers = [key_of(self.base + self.ledger.send()) for _ in range(count)]
+
+    def recall(self) -> None:
+        """Has in mind what a run had acknowledged that died."""
+        self._acked = [*self.ledger.records]
 
     async def _talk(self, name: str, once: Once, is_over: Callable[[], bool] = bool) -> None:
         """Runs a co-process that is asked again and again, and another where it ends or hangs."""
@@ -98,7 +104,7 @@ class Clients:
     async def _write_one(self, process: Process, client: Client, dice: Random) -> str | None:
         number, value = self.ledger.send(), f"{dice.getrandbits(64):016x}"
         is_register = bool(self.registers) and dice.random() < 0.5
-        key = dice.choice(self.registers) if is_register else key_of(number)
+        key = dice.choice(self.registers) if is_register else key_of(self.base + number)
         with self.history.write(client, key, value) as operation:
             match await self._ask(process, f"{key} {value}"):
                 case _, str(error):
@@ -111,6 +117,7 @@ class Clients:
                         self._acked.append(key)
                     else:
                         operation.unknown("late")
+                    self.marked(self.ledger.mark)
                 case ["no"], _:
                     operation.unknown("no")
                 case words, _:
@@ -265,6 +272,12 @@ class Clients:
 def key_of(number: int) -> str:
     """The key of the record that is written so manyth."""
     return f"{PREFIX}{number:09d}"
+
+
+def number_of(key: str) -> int:
+    """The number of a key that is the tool's; 0 of any other."""
+    digits = key[len(PREFIX) :]
+    return int(digits) if key.startswith(PREFIX) and digits.isdecimal() else 0
 
 
 def unexpected(hook: str, words: list[str], expected: str) -> Fault:

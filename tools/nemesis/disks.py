@@ -9,7 +9,7 @@ import signal
 import struct
 from abc import ABC, abstractmethod
 from argparse import Namespace
-from collections.abc import Coroutine, Iterator, Sequence
+from collections.abc import Coroutine, Iterable, Iterator, Sequence
 from functools import partial
 from pathlib import Path
 from random import Random
@@ -55,6 +55,15 @@ class Disks(ABC):
     async def begin(self) -> None:
         """Mounts all of them, with nothing on them."""
         await asyncio.gather(*map(self.replace, range(self._count)))
+
+    async def again(self, numbers: Iterable[int]) -> None:
+        """Mounts those of a run that died, with what they have."""
+
+        async def one(number: int) -> Cut:
+            await self._insert(number)
+            return Cut()
+
+        await asyncio.gather(*(self._begun(number, one(number)) for number in numbers))
 
     async def cut(self, numbers: Sequence[int], tear: int) -> Cut:
         """Cuts the power of all at once, and mounts them again."""

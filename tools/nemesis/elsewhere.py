@@ -8,6 +8,7 @@ from collections.abc import AsyncIterator, Awaitable, Collection, Iterable, Sequ
 from contextlib import asynccontextmanager, suppress
 
 from faultyard import ClusterFile, FaultyardError, Kind
+from faultyard_hooks import driver
 
 from . import HOOK, Fault, clock
 from .alone import OWN
@@ -22,12 +23,17 @@ DEAD = 5.0  # seconds of `ready` that says no, after which such a process counts
 def refused(words: Namespace, names: Collection[str], granted: Collection[Kind]) -> str | None:
     """What a run can't have with these hooks, and why."""
     away = "by the hook `kill` the processes are elsewhere"
+    if words.on and "kill" not in names:
+        return f"--on {words.on}: these hooks have no `kill`, so they run nothing there"
     if words.disks == OWN and "power" not in names:
-        return "--disks own needs a hook `power`"
+        return f"--disks own needs a hook `power`{because(words.on, 'power')}"
     if words.disks == OWN and words.deaf_disks:
         return "--deaf-disks has no effect with --disks own"
     if words.net and "cut" in names and words.clog != "both":
         return f"--clog {words.clog} has no effect where the hooks `cut` and `mend` are the network"
+    if words.attach is not None:
+        if lack := unattached(words, names, granted):
+            return lack
     if "kill" not in names:
         return None
     if words.disks not in (None, OWN):
@@ -36,12 +42,35 @@ def refused(words: Namespace, names: Collection[str], granted: Collection[Kind])
             f"--disks {words.disks}: {away}, where this tool has no disk whose power it cuts; {own}"
         )
     if words.net and "cut" not in names:
-        return f"--net: {away}, where this tool has no cable; there are no hooks `cut` and `mend`"
+        text = f"--net: {away}, where this tool has no cable; there are no hooks `cut` and `mend`"
+        return text + because(words.on, "cut")
     if Kind.CLOG in granted and "pause" not in names and not words.net:
         return f"Clog is granted, and {away}; there are no hooks `pause` and `resume`"
     if "plain" in names and "fetch" not in names:
         return f"`plain` is promised, and {away}; there is no hook `fetch`"
     return None
+
+
+def unattached(words: Namespace, names: Collection[str], granted: Collection[Kind]) -> str | None:
+    """What a run lacks that is to leave a cluster as it found it."""
+    if words.on:
+        on = words.on.replace(":", " ").split()[0]
+        return f"--attach: what --on {on} starts ends with this tool; `start` has to leave it"
+    if not (words.at or words.on):
+        return "--attach needs --at, which says where the cluster is"
+    needed = {"name": "says which cluster may be struck", "kill": "acts where that is"}
+    if any(kind.empties_disk for kind in granted):
+        needed["empty"] = "removes what a process has"
+    for name, does in needed.items():
+        if name not in names:
+            return f"--attach needs a hook `{name}`, which {does}"
+    return None
+
+
+def because(on: str | None, name: str) -> str:
+    """Why the driver of --on hasn't a hook, where it says that."""
+    why = driver(on).cannot.get(name) if on else None
+    return f": {why}" if why else ""
 
 
 class Elsewhere:
@@ -120,7 +149,7 @@ class Elsewhere:
 
     @asynccontextmanager
     async def ending(self, count: int) -> AsyncIterator[None]:
-        """Whatever ends the block, what the processes run elsewhere is killed."""
+        """Whatever ends the block, what so many processes run elsewhere is killed."""
         self.running = set(range(count)) if self.has("kill") else set()
         try:
             yield
@@ -202,6 +231,11 @@ class Partitions:
     async def begin(self) -> None:
         """Undoes what an aborted run left."""
         await self._where.done("mend")
+
+    async def end(self) -> None:
+        """Undoes what a run leaves that is broken off."""
+        if any(count > 0 for count in self._lost.values()):
+            await self._where.done("mend")
 
     def within(self, number: int) -> list[str]:
         return []

@@ -4,10 +4,9 @@ from collections.abc import Callable, Iterable, Mapping, Sequence, Set
 from dataclasses import dataclass, field
 from typing import Any
 
+from faultyard.history import PREFIX, Operation
 from faultyard.ledger import Heal, Loss, Record
-
-from .history import PREFIX, Operation
-from .verdicts import Verdict
+from faultyard.verdicts import Verdict
 
 Found = Mapping[str, str | None]  # by key; None where a read that was answered lacks it
 Disk = Mapping[str, str] | None  # what the folder of a process has, if that is known

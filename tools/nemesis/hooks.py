@@ -22,7 +22,7 @@ NEEDED = {"start", "whole", "write", "read"}
 KNOWN = NEEDED | {"hooks", "setup", "ready", "join", "leave", "elect", "pause", "resume"}
 KNOWN |= {"check", "get", "salvage"}
 # These act where the tool can't.
-KNOWN |= {"kill", "empty", "fetch", "power", "cut", "mend"}
+KNOWN |= {"kill", "empty", "fetch", "power", "cut", "mend", "name"}
 # These are no hooks, but promises: no answer of check lags; records stand in files as written.
 KNOWN |= {"fresh", "plain"}
 # Some copy: they have six times as long.
@@ -61,9 +61,14 @@ class Hooks:
         self._path, self._ledger, self._machine = words.hooks, ledger, machine
         self.before: Callable[[int], list[str]] = lambda number: []  # the words of start
         self.limit: float = words.hook_timeout
+        self._is_attached = words.attach is not None
         self._zones = [place[Key.ZONE] for place in file.places]
         self._log = HookLog(words.out / "hooks.log", ledger.now)
         self._env = described(file, places, words.on) | {"FY_DIR": str(words.out)}
+        if words.resume:
+            self._env["FY_RESUMED"] = "1"
+        if words.net:
+            self._env["FY_NET"] = "1"
 
     def said_by_write(self) -> tuple[str, int]:
         """What `write` wrote most often to standard error, and how often."""
@@ -91,7 +96,7 @@ class Hooks:
     @asynccontextmanager
     async def set_up(self) -> AsyncIterator[None]:
         """Has `setup` done. What it started for all lives until the block ends."""
-        if "setup" not in self.names:
+        if "setup" not in self.names or self._is_attached:
             yield
             return
         shell = '"$0" setup < /dev/null >&2; echo $?; exec sleep infinity'
@@ -105,7 +110,8 @@ class Hooks:
                         status = int(await process.stdout.readline() or -1)
                 if status != 0:
                     path = f"{self._env['FY_DIR']}/hooks.log"
-                    raise Fault(HOOK, f"{End('setup', status)}; {path} may say why")
+                    end = End("setup", status, self._log.said("setup"))
+                    raise Fault(HOOK, f"{end}; {path} may say why")
                 yield
 
     def seconds(self, name: str) -> float:

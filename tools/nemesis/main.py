@@ -8,12 +8,16 @@ import signal
 import sys
 import tempfile
 from collections.abc import Callable, Coroutine, Iterator, Sequence
+from contextlib import contextmanager
 from pathlib import Path
 from typing import Any
 
 import faultyard
-from faultyard import ConfigRefused, FaultyardError, Guard, InvalidAct, Kind, NotFound
+from faultyard import ConfigRefused, FaultyardError, Guard, GuardEnded, HistoryRefused
+from faultyard import InvalidAct, Kind
+from faultyard import NotFound
 from faultyard.plans import BLACKOUTS, PARTITIONS, PAUSES, PLANS
+from faultyard.verdicts import Verdict
 from config_check.main import explain
 from keeper import adopt_orphans, end_children
 
@@ -29,9 +33,9 @@ from .net import WAYS
 from .orders import KINDS
 from .places import places
 from .picture import draw
+from .resume import WORDS, Past, Words, is_alive, over
 from .run import Run
 from .summary import MILD, besides, closing, tested_little
-from .verdicts import Verdict
 
 # The words that only some plans draw by.
 DRAWN = {"kinds": ("mixed", "attrition", "swizzle"), "pauses": ("mixed", "blackout", "partition")}
@@ -88,10 +92,14 @@ def parsed(given: Sequence[str] | None = None) -> argparse.Namespace:
     add("--clog", choices=WAYS, default="both", help=text)
     text = "where each process is reached: HOST:PORT,.. or a file of lines NAME HOST:PORT"
     add("--at", type=places, metavar="PLACES", help=text)
-    text = "the hosts on which the processes run, by ssh and a hook in Python: ssh:HOST,.."
+    text = "strike a cluster that is up already, whose hook `name` says this, and leave it whole"
+    add("--attach", metavar="NAME", help=text)
+    text = "where hooks in Python run processes: ssh:HOST,.. units: containers:IMAGE or pods:POD,.."
     add("--on", metavar="WHERE", help=text)
     add("--replay", type=Path, metavar="EVENTS", help="do the orders of an events.jsonl again")
     add("--unguarded", action="store_true", help="do what was ordered, whatever the guard says")
+    text = "go on with the run in a folder that died, by its own words"
+    add("--resume", type=Path, metavar="FOLDER", help=text)
     add("--check-hooks", action="store_true", help="have each hook called on a calm cluster")
     add("--writers", type=int, default=3, help="how many write hooks run (3)")
     add("--readers", type=int, default=2, help="how many check hooks run, if there is one (2)")
@@ -114,7 +122,11 @@ def parsed(given: Sequence[str] | None = None) -> argparse.Namespace:
     add("--quiet", action="store_true", help="print the summary alone")
     text = "print the history of a run that has ended as EDN, and do nothing else"
     add("--edn", action=Convert, metavar="FOLDER", help=text)
-    words = it.parse_args(given)
+    words = it.parse_args(given := with_those_of_a_run(it, given))
+    words.given, words.cwd, words.port = given, os.getcwd(), None
+    if words.resume:
+        words.port = Words.of(words.resume).port
+        words.out = words.resume
     for name, least in LEAST.items():
         if not least <= vars(words)[name] < 1e9:
             it.error(f"--{name.replace('_', '-')} has to be {least} or more")
@@ -129,14 +141,37 @@ def parsed(given: Sequence[str] | None = None) -> argparse.Namespace:
             it.error(f"there is no file {path}")
     if not os.access(words.hooks, os.X_OK):
         it.error(f"{words.hooks} is no executable")
+    if words.resume and words.check_hooks:
+        it.error("--check-hooks isn't gone on with: it begins anew")
+    if words.attach is not None and not words.attach.strip():
+        it.error("--attach has to name the cluster that may be struck")
+    if words.attach and words.check_hooks:
+        it.error("--check-hooks empties each process: it isn't for a cluster of --attach")
     if words.tokens and not words.guard:
         it.error("--tokens goes with --guard")
-    if words.out and words.out.is_dir() and any(words.out.iterdir()):
+    if words.out and not words.resume and words.out.is_dir() and any(words.out.iterdir()):
         it.error(f"{words.out} is not empty")
     if idle := without_effect(words):
         it.error(idle)
     words.hooks, words.parts = words.hooks.resolve(), False
     return words
+
+
+def with_those_of_a_run(parser: argparse.ArgumentParser, given: Sequence[str] | None) -> list[str]:
+    """The words that are given; behind those of the run's beginning, if one is gone on with."""
+    given = [*(sys.argv[1:] if given is None else given)]
+    first = argparse.ArgumentParser(add_help=False, allow_abbrev=False)
+    first.add_argument("--resume", type=Path)
+    known, rest = first.parse_known_args(given)
+    if not known.resume:
+        return given
+    folder = known.resume.resolve()
+    try:
+        begun = Words.of(folder)
+    except Fault as fault:
+        parser.error(fault.args[1])
+    os.chdir(begun.cwd)
+    return [*begun.given, "--resume", str(folder), *rest]
 
 
 def without_effect(words: argparse.Namespace) -> str | None:
@@ -156,17 +191,43 @@ def read_tokens(path: Path) -> dict[int, str]:
     return {int(row[1]): row[0] for row in rows if len(row) == 2 and row[1].isdigit()}
 
 
+def past_of(words: argparse.Namespace, machine: Machine) -> Past | None:
+    """What a run had done that died. Of one that had written nothing nothing is left."""
+    machine.end_strays(words.out)
+    if (past := Past.of(words.out)) is None:
+        for path in words.out.iterdir():
+            if path.name != WORDS:
+                shutil.rmtree(path) if path.is_dir() else path.unlink()
+    return past
+
+
+@contextmanager
+def guarded(words: argparse.Namespace, past: Past | None) -> Iterator[Guard]:
+    """The guard of a run. One that was killed after its last answer has said all."""
+    tokens = read_tokens(words.tokens) if words.tokens else {}
+    after = words.out / "audit" if past and not words.guard else None
+    more = {"folder": words.out, "server": words.guard, "tokens": tokens}
+    is_over = False
+    try:
+        with Guard(words.config, after=after, **more) as guard:
+            yield guard
+            is_over = True
+    except GuardEnded as end:
+        if not is_over or end.status is None or end.status >= 0:
+            raise
+
+
 async def chaos(words: argparse.Namespace, machine: Machine) -> int:
     """A run, and how the tool ends."""
     loop, task = asyncio.get_running_loop(), asyncio.current_task()
     assert task
     for number in (signal.SIGINT, signal.SIGTERM, signal.SIGHUP):
         loop.add_signal_handler(number, task.cancel, int(number))
-    tokens = read_tokens(words.tokens) if words.tokens else {}
-    with Guard(words.config, folder=words.out, server=words.guard, tokens=tokens) as guard:
-        if guard.journal_len():
+    past = past_of(words, machine) if words.resume else None
+    with guarded(words, past) as guard:
+        if guard.journal_len() and not past:
             raise Fault(USAGE, f"{words.guard} has entries: a run needs a new audit")
-        run = Run(words, guard, machine)
+        run = Run(words, guard, machine, past)
         try:
             await run.whole()
         except (asyncio.CancelledError, Fault) as fault:
@@ -180,8 +241,10 @@ async def chaos(words: argparse.Namespace, machine: Machine) -> int:
         finally:
             run.history.flush()
     status = report(run)
+    run.note("over", status=status, told=closing(run.judged))
     if status == NONE_LOST and not words.keep:
-        await run.elsewhere.cleared(len(run.names))
+        if not words.attach:
+            await run.elsewhere.cleared(len(run.names))
         for process in range(len(run.names)):
             shutil.rmtree(words.out / str(process), ignore_errors=True)
             if run.disks:
@@ -214,6 +277,8 @@ def ended(
 ) -> int:
     """How the tool ends, on a machine and in a loop; what ends it before its time is told."""
     try:
+        if words.resume and (ended_with := as_it_ended(words.out)) is not None:
+            return ended_with
         words.out = Path(words.out or tempfile.mkdtemp(prefix="faultyard-nemesis-")).resolve()
         words.out.mkdir(parents=True, exist_ok=True)
         return run(chaos(words, machine))
@@ -222,14 +287,25 @@ def ended(
         return 128 + int(interrupted.args[0])
     except (Fault, FaultyardError, OSError) as fault:
         refused = isinstance(fault, (ConfigRefused, InvalidAct, NotFound))
-        status = USAGE if refused else GUARD if isinstance(fault, FaultyardError) else TOOL
+        is_guards = isinstance(fault, FaultyardError) and not isinstance(fault, HistoryRefused)
+        status = USAGE if refused else GUARD if is_guards else TOOL
         status, why = fault.args if isinstance(fault, Fault) else (status, fault)
-        if status == USAGE:
+        if status == USAGE and not words.resume:
             shutil.rmtree(words.out)
         print(f"faultyard-nemesis: {why}", file=sys.stderr)
         if isinstance(fault, ConfigRefused) and (more := explain(words.config)):
             print(more, file=sys.stderr)
         return int(status)
+
+
+def as_it_ended(folder: Path) -> int | None:
+    """The status of a run that has ended; nothing where it may be gone on with."""
+    if is_alive(folder):
+        raise Fault(USAGE, f"the run in {folder} goes on: nothing has to be gone on with")
+    if (last := over(folder)) is None:
+        return None
+    say(f"the run in {folder} has ended with status {last['status']}: {last['told']}")
+    return int(last["status"])
 
 
 def rising(events: Path) -> Iterator[str]:
@@ -288,7 +364,7 @@ def report(run: Run, is_read: bool = True) -> int:
         if words.unguarded and not judged.is_unclear:
             lines.append(MILD)
     lines += told_cases(run.cases, SHOWN)
-    lines += [*besides(judged), *run.linear.told(SHOWN)] if is_read else []
+    lines += [*besides(judged), *summary.told_keys(run.linear, SHOWN)] if is_read else []
     acked = len(run.ledger.records)
     ending = closing(judged) if is_read else f"{acked} acknowledged so far, not read"
     (words.out / "picture.svg").write_text(draw(words.out, run.file, [lines[0], ending]), "utf-8")

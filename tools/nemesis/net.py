@@ -92,7 +92,8 @@ class Net:
     async def _change(self, which: str, elements: Sequence[str], is_added: bool) -> None:
         """Faults may overlap: an element is there until all have ended that want it."""
         before = {it for it in elements if self._lost[it]}
-        self._lost.update(dict.fromkeys(elements, 1 if is_added else -1))
+        for it in elements:  # none ends that a run had begun which died
+            self._lost[it] = max(0, self._lost[it] + (1 if is_added else -1))
         after = {it for it in elements if self._lost[it] > 0}
         if changed := sorted(after ^ before):
             deed = "add" if is_added else "delete"

@@ -61,7 +61,7 @@ def addresses(on: str | None) -> list[Place]:
         return []
     try:
         return [Place(host) for host in driver(on).addresses()]
-    except (OSError, subprocess.CalledProcessError) as fault:
+    except (OSError, ValueError, subprocess.CalledProcessError) as fault:
         raise Fault(USAGE, f"--on {on}: {fault}") from None
 
 

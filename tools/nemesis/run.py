@@ -9,22 +9,23 @@ from itertools import chain
 from random import Random
 from typing import Any
 
-from faultyard import FaultyardError, Guard, Kind
+from faultyard import AuditRefused, FaultyardError, Guard
+from faultyard.history import History
 from faultyard.ledger import Record
-from faultyard.replies import Entry
+from faultyard.verdicts import Judged, Linear, Verdict, judge, judge_registers
 
 from . import HOOK, USAGE, Fault
+from .attach import attach, leave, leave_in_haste
 from .checks import HookCheck
 from .clients import Clients, Pairs, pairs
 from .evidence import MORE, Case, Course, Disk, Left, unwritten, unwritten_line
-from .history import History
 from .machine import Machine
 from .orders import Orders, Timed
+from .resume import Mark, Past, Words, end_what_runs, recall
 from .store import AGAIN, Store, cancelled
 from .summary import Amount, failures
 from .timeline import lines_of
 from .traces import traces
-from .verdicts import Judged, Linear, Verdict, judged, linear
 
 PATIENT = 10.0  # seconds after which the first order is done though no record is acknowledged
 
@@ -47,28 +48,42 @@ class Run(Store):
     cases: list[dict[str, Any]] = []  # the evidence of each that isn't kept, as in records.jsonl
     is_unread = False  # whether `read` hung, so that only disks and `check` can say what is left
 
-    def __init__(self, words: Namespace, guard: Guard, machine: Machine) -> None:
-        super().__init__(words, guard, machine)
+    def __init__(
+        self, words: Namespace, guard: Guard, machine: Machine, past: Past | None = None
+    ) -> None:
+        """`past` is what it had done when it died."""
+        super().__init__(words, guard, machine, goes_on=past is not None)
+        self.past = past
+        self.is_left = False  # whether a cluster that others started is left as it was
         self.down: list[str] = []  # who did not run at the end
         self.notes: list[str] = []  # who was not back at the end, and why nothing could be read
-        self.history = History(words.out / "history.jsonl", self.ledger)
+        path = words.out / "history.jsonl"
+        self.history: History = History(path, self.ledger, goes_on=past is not None)
         self.clients = Clients(self.hooks, self, self.history)
+        self.clients.marked = Mark(words.out).keep
+        if not words.resume:
+            Words(words.given, words.cwd, words.port).keep(words.out)
         self.check = HookCheck(self)
 
     async def whole(self) -> None:
         """The run from its first process to what could be read."""
         await self.learn()
+        if self.words.attach:
+            await attach(self)
         self._have_registers()
         orders = Orders(self.words, self.file, self.fault)
         try:
-            await self.lay_out()
+            if self.past:
+                recall(self, self.past)
+            await self.lay_out(goes_on=self.past is not None)
             async with self.hooks.set_up(), self._ending(), asyncio.TaskGroup() as tasks:
-                await self.begin(tasks)
-                self.ledger.begin()
-                self.note("ready")
+                await self._begin(tasks)
                 self.show(f"orders: {orders.whose}")
-                await self._chaos(orders.timed)
+                if not self.history.is_written:
+                    await self._chaos(orders.timed)
                 left = await self._read()
+                if self.words.attach:
+                    await leave(self)
                 await self.end()
                 await self.check.disks()
                 await self._judge(left)
@@ -80,14 +95,33 @@ class Run(Store):
             if self.disks:
                 await self.disks.settle()
 
+    async def _begin(self, tasks: asyncio.TaskGroup) -> None:
+        """Has the store run, all of it, or again what isn't destroyed."""
+        if self.past:
+            await end_what_runs(self, self.past)
+            await self.begin(tasks)
+            await self.back()
+            return
+        if self.words.resume and not self.words.attach:  # it died before anything was written
+            await self.elsewhere.each("kill", range(len(self.names)))
+            await self.elsewhere.each("empty", range(len(self.names)))
+        await self.begin(tasks)
+        await self.calm()
+        self.ledger.begin()
+        self.note("ready")
+
     @asynccontextmanager
     async def _ending(self) -> AsyncIterator[None]:
         """Whatever ends the block, nothing of the processes runs then, or it is said who may."""
         where = self.elsewhere
         try:
-            async with where.ending(len(self.names)):
+            async with where.ending(0 if self.words.attach else len(self.names)):
                 yield
         finally:
+            with suppress(Fault):
+                await self.mended()
+            if self.words.attach and not self.is_left:
+                await leave_in_haste(self)
             for number in sorted(where.survivors):
                 end = self.hooks.ends.get(number, "no hook has answered")
                 self.notes.append(f"{self.names[number]} may still run where it is: {end}")
@@ -100,20 +134,20 @@ class Run(Store):
 
     async def _chaos(self, orders: list[Timed]) -> None:
         """Writes and orders, until all that was clogged is let go again."""
-        words = self.words
-        dice = [Random(f"{words.seed}-{n}") for n in range(words.writers + words.readers)]
+        words, again = self.words, f"-{len(self.past.resumed)}" if self.past else ""
+        dice = [Random(f"{words.seed}-{n}{again}") for n in range(words.writers + words.readers)]
         work = [self.clients.write(it) for it in dice[: words.writers]]
         if "check" in self.hooks.names:
             work += [self.clients.check(it) for it in dice[words.writers :]]
         if self.clients.registers:
-            more = (Random(f"{words.seed}-get-{n}") for n in range(max(words.readers, 1)))
+            more = (Random(f"{words.seed}-get-{n}{again}") for n in range(max(words.readers, 1)))
             work += [self.clients.get(it) for it in more]
         if words.guard:
             work.append(self.follow())
         behind = [self.tasks.create_task(it) for it in work]
         if words.check_hooks:
             self.notes += await self.check.whole()
-        late = await self._late(orders)
+        orders, late = await self._left_of(orders)
         for at, order in orders:
             await asyncio.sleep(at + late - self.ledger.now())
             if order.cuts:
@@ -129,6 +163,19 @@ class Run(Store):
         self.history.written()
         await self.clogs_ended(at_once=True)
 
+    async def _left_of(self, orders: list[Timed]) -> tuple[list[Timed], float]:
+        """The orders that are still to be done, and how many seconds later than planned."""
+        if self.past is None or self.past.late is None:
+            late, what = await self._late(orders), "begun"
+        else:
+            died = self.past.ended_ns / 1e9
+            orders = [(at, order) for at, order in orders if at + self.past.late > died]
+            late, what = self.past.late + self.ledger.now() - died, "resumed"
+        if self.past:
+            what = "resumed"
+        self.note(what, late=late)
+        return orders, late
+
     async def _late(self, orders: list[Timed]) -> float:
         """How many seconds later than planned orders are done, which wait for a first record.
 
@@ -140,10 +187,6 @@ class Run(Store):
         while not self.ledger.records and self.ledger.now() < PATIENT:
             await asyncio.sleep(AGAIN)
         return max(0.0, self.ledger.now() - orders[0][0])
-
-    def answered(self, entry: Entry, does: Kind | None) -> None:
-        done = {"does": does.value if does else None}
-        self.history.answered(entry.at, **({} if does is entry.struck else done))
 
     async def look_at_emptied(self, number: int) -> None:
         if self.words.check_hooks:
@@ -192,18 +235,21 @@ class Run(Store):
     async def _judge(self, left: Left) -> None:
         """Says what became of each record; the disks are looked at where that isn't clear."""
         self._have_judged()
-        if "salvage" in self.hooks.names and self.judged.is_unclear:
+        is_down = not self.words.attach  # else the store runs on
+        if "salvage" in self.hooks.names and self.judged.is_unclear and is_down:
             left = await self._looked_through(replace(left, disks=await self._salvaged()))
             self._have_judged()
         if self.words.registers:
-            self.linear = linear(self.words.out)
+            self.linear = judge_registers(self.words.out)
         self.cases = self._cases(left)
         verdicts = {it.value: self.judged[it] for it in Verdict}
         self.note("read", acked=self.judged["acknowledged"], **verdicts)
 
     def _have_judged(self) -> None:
         self.history.flush()
-        self.judged = judged(self.words.config, self.words.out)
+        self.judged = Judged()
+        with suppress(AuditRefused):  # which is told beside
+            self.judged = judge(self.words.config, self.words.out)
 
     async def _salvaged(self) -> dict[int, Disk]:
         """What the folder of each process has; those that the tool emptied have nothing.
@@ -256,7 +302,7 @@ class Run(Store):
 
     def unread(self) -> None:
         """Says what is known of the records where nothing was read in the end: which are wrong."""
-        with suppress(Fault):
+        with suppress(FaultyardError):
             self._have_judged()
             wrong = [it for it in self.judged.lines if it["verdict"] == Verdict.WRONG]
             self.judged = replace(self.judged, lines=wrong)

@@ -11,6 +11,7 @@ from asyncio.subprocess import DEVNULL, Process
 from collections.abc import AsyncIterator, Sequence
 from contextlib import asynccontextmanager, suppress
 from pathlib import Path
+from typing import Any, cast
 
 from faultyard import ClusterFile, Guard, Kind
 from faultyard.harness import Harness
@@ -36,11 +37,13 @@ LIVES = 0.5  # seconds after which a process counts as ready where no hook tells
 
 
 class Store(Harness):
-    def __init__(self, words: Namespace, guard: Guard, machine: Machine) -> None:
+    def __init__(
+        self, words: Namespace, guard: Guard, machine: Machine, goes_on: bool = False
+    ) -> None:
         file, events = ClusterFile.read(words.config), words.out / "events.jsonl"
         show = (lambda text: None) if words.quiet else say
         more = {"unguarded": words.unguarded, "show": show, "clock": clock_ns}
-        super().__init__(guard, file, events, **more)
+        super().__init__(guard, file, events, goes_on=goes_on, **more)
         count = len(file.places)
         self.net: Net | Partitions | None = None
         if alone.has_net(words):
@@ -64,6 +67,7 @@ class Store(Harness):
         self.not_whole: dict[int, tuple[float, float] | None] = {}
         self.clogged: set[int] = set()
         self.joined: dict[int, str] = {}  # what the last join of each has done, until it is struck
+        self.attached: set[int] = set()  # who runs, and was started by others
         self.idle: set[int] = set()  # those whose last join left the folder empty
         self._elected = 0  # how many of the losses an election has seen
         self._joining, self._alone_until = 0, 0.0
@@ -74,7 +78,11 @@ class Store(Harness):
             return reached(given, self.names)
         count = len(self.names)
         hosts = self.net.hosts if self.net else ["127.0.0.1"] * count
-        return in_a_row(hosts, self._machine.free_ports(PORTS * count))
+        if self.words.port is None:
+            self.words.port = self._machine.free_ports(PORTS * count)
+        else:
+            self._machine.hold_ports(self.words.port)
+        return in_a_row(hosts, self.words.port)
 
     async def learn(self) -> None:
         """Asks which hooks there are, and whether they do for the words of this run."""
@@ -85,21 +93,33 @@ class Store(Harness):
         if self.words.net and "cut" in names:
             self.net = Partitions(self.elsewhere, len(self.names))
 
-    async def lay_out(self) -> None:
+    async def lay_out(self, goes_on: bool) -> None:
         """Gives each process its host and its disk, where these were asked for."""
         if self.net:
             await self.net.begin()
-        if self.disks:
+        if self.disks and goes_on:
+            await self.disks.again(set(range(len(self.names))) - self.emptied)
+        elif self.disks:
             await self.disks.begin()
 
+    async def mended(self) -> None:
+        """No network that hooks cut stays so."""
+        if isinstance(self.net, Partitions):
+            await self.net.end()
+
     async def begin(self, tasks: asyncio.TaskGroup) -> None:
-        """Starts the store, and waits for all of it."""
+        """Starts the store."""
         self.tasks, self.spawn = tasks, tasks.create_task
         self._electing = tasks.create_task(self._elect())
         for number in range(len(self.names)):
             (self.words.out / str(number)).mkdir(exist_ok=True)
             self._keeping[number] = tasks.create_task(self._keep(number))
-        await self.calm()
+
+    async def back(self) -> None:
+        """Waits until all are up that aren't destroyed, for as long as a join may take."""
+        until = clock() + self.hooks.seconds("join")
+        while not self.ledger.able <= self.up and clock() < until:
+            await asyncio.sleep(AGAIN)
 
     async def calm(self) -> None:
         """Waits until all are up and whole."""
@@ -286,15 +306,33 @@ class Store(Harness):
             with (self.words.out / f"{self.names[number]}.log").open("ab") as log:
                 begin, files = log.tell(), {"stdin": DEVNULL, "stdout": log, "stderr": log}
                 self._began[number] = clock()
-                async with self.hooks.running("start", number, **files) as process:
+                async with self._running(number, files) as process:
                     self._started[number] = process
                     life = Life(self.elsewhere, number)
                     while await life.goes_on(process.returncode, number in self.up):
                         await self._ask_after(number, process)
+                        self._may_stay(number, process)
                         await asyncio.sleep(AGAIN)
             assert process.returncode is not None  # or it would go on
             self._end_by_itself(number, process.returncode, begin)
             await asyncio.sleep(self.crashes[number].pause())
+
+    @asynccontextmanager
+    async def _running(self, number: int, files: dict[str, Any]) -> AsyncIterator[Process]:
+        """What `start` runs; or a process that others started, as if `start` had returned."""
+        if number in self.attached:
+            self.attached.discard(number)
+            yield cast(Process, Namespace(returncode=0))
+            return
+        async with self.hooks.running("start", number, **files) as process:
+            yield process
+
+    def _may_stay(self, number: int, process: Process) -> None:
+        """A process that is to be left where it runs may not end with its `start`."""
+        is_held = process.returncode is None and number in self.up
+        if self.words.attach and is_held and clock() > self._began[number] + self.hooks.limit:
+            text = f"`start {number}` goes on, though `ready {number}` says yes: with --attach"
+            raise Fault(HOOK, f"{text} it has to return, or what it runs ends with this tool")
 
     def _end_by_itself(self, number: int, status: int, begin: int) -> None:
         """Notes that a process ended which nobody struck, with the end of what it wrote."""

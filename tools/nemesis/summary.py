@@ -2,8 +2,9 @@
 from collections.abc import Iterator, Mapping, Sequence
 from dataclasses import dataclass, field
 
+from faultyard.verdicts import Judged, Linear, Verdict
+
 from . import HOOK, LOST, MISSING, NONE_LOST, NOT_LINEARIZABLE, STALE, UNREADABLE, WRONG
-from .verdicts import Judged, Linear, Verdict
 
 FEW = 100  # acknowledged writes: with fewer a run says little
 MILD = "tested little: unguarded, and nothing was lost: --plan attrition destroys more"
@@ -70,6 +71,16 @@ def besides(judged: Judged) -> Iterator[str]:
     if seconds := judged.counts.get("staleness"):
         parts = ", ".join(f"{it / 1e9:.3f}" for it in seconds)
         yield f"stale for {parts} s: the least, half, 95 and 99 of 100, the most"
+
+
+def told_keys(linear: Linear, shown: int) -> list[str]:
+    """Which keys aren't linearizable, if that was asked."""
+    if not linear.counts:
+        return []
+    keys, operations = linear.counts["keys"], linear.counts["operations"]
+    text = f"{len(linear.lines)} of {keys} keys aren't linearizable, in {operations} operations"
+    some = ", ".join(linear.keys[:shown]) + (" .." if len(linear.lines) > shown else "")
+    return [f"{text}: {some}, in linear.jsonl" if linear.lines else text]
 
 
 def status(judged: Judged, linear: Linear, is_fresh: bool, is_unread: bool) -> int:

@@ -112,7 +112,9 @@ def timeline(folder: Path, file: ClusterFile) -> Timeline:
     events = [*lines_of(folder / "events.jsonl")]
     acks = [*acknowledged(lines_of(folder / "history.jsonl"))]
     records = [*not_kept(lines_of(folder / "records.jsonl"))]
-    last = max([1.0, *(event["t"] for event in events if event["what"] != "read"), *acks])
+    last = max(
+        [1.0, *(event["t"] for event in events if event["what"] not in ("read", "over")), *acks]
+    )
     states = _States(file, last)
     for event in events:
         states.take(event)

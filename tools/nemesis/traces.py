@@ -5,7 +5,7 @@ import stat
 from collections.abc import Iterator, Mapping
 from pathlib import Path
 
-from .history import PREFIX
+from faultyard.history import PREFIX
 
 # A key or a value, also where other digits stand around it.
 TEXT = re.compile(rf"(?=({PREFIX}\d{{9}}|[0-9a-f]{{16}}))".encode())

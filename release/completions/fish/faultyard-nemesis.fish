@@ -9,7 +9,9 @@ complete -c faultyard-nemesis -l kinds -x -d "How often each kind is drawn"
 complete -c faultyard-nemesis -l pauses -x \
     -d "Pauses between orders of mixed, blackout and partition"
 complete -c faultyard-nemesis -l replay -r -d "Do the orders of this events.jsonl"
-complete -c faultyard-nemesis -l on -x -d "The hosts of the processes, by ssh"
+complete -c faultyard-nemesis -l resume -r -d "Go on with the run in a folder that died"
+complete -c faultyard-nemesis -l on -x -d "Where processes run: ssh, units, containers, pods"
+complete -c faultyard-nemesis -l attach -x -d "Strike the cluster of this name, which is up"
 complete -c faultyard-nemesis -l at -r -F -d "Where each process is reached"
 complete -c faultyard-nemesis -l disks -x -a "ext4 xfs lossy own" \
     -d "A disk for each process, whose power a Reboot cuts"
