@@ -27,7 +27,7 @@ class Sources(unittest.TestCase):
         self.assertEqual((told.returncode, told.stdout + told.stderr), (0, ""))
 
     def test_the_packages_under_the_race_detector(self):
-        told = go("test", "-race", "-count=1", "-v", "./internal/...")
+        told = go("test", "-race", "-count=1", "-timeout=1h", "-v", "./internal/...")
         tests = "".join(it.read_text() for it in SOURCE.glob("internal/*/*_test.go"))
         wanted = re.findall(r"^func (Test\w+)\(", tests, re.M)
         self.assertEqual(sorted(re.findall(r"^--- PASS: (\w+) ", told, re.M)), sorted(wanted))

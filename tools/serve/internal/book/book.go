@@ -111,6 +111,7 @@ type Stats struct {
 
 // Book is an open audit. Goroutines may share it.
 type Book struct {
+	clock  Clock
 	guard  Guard
 	audit  *os.File
 	events *events
@@ -252,7 +253,7 @@ func (turn *Turn) refuse(err error) {
 func (book *Book) commit(turns []*Turn) error {
 	var stats Stats
 	book.buffer = book.buffer[:0]
-	book.events.look()
+	book.events.look(book.clock.Now())
 	for _, turn := range turns {
 		turn.Answers = turn.Answers[:0]
 		for _, ask := range turn.Asks {
@@ -264,7 +265,7 @@ func (book *Book) commit(turns []*Turn) error {
 		}
 	}
 	if len(book.buffer) > 0 {
-		begun := time.Now()
+		begun := book.clock.Now()
 		book.asks(begun)
 		if err := book.write(); err != nil {
 			return err
@@ -273,7 +274,7 @@ func (book *Book) commit(turns []*Turn) error {
 		if err := book.areThere(); err != nil {
 			return err
 		}
-		stats.Syncs, stats.Synced = 1, time.Since(begun)
+		stats.Syncs, stats.Synced = 1, book.clock.since(begun)
 	}
 	book.publish(stats)
 	return nil
@@ -378,7 +379,7 @@ func (book *Book) publish(stats Stats) {
 	its.Syncs += stats.Syncs
 	if stats.Syncs > 0 {
 		book.lastSync = stats.Synced
-		book.health.answered, book.health.asked = time.Now(), time.Time{}
+		book.health.answered, book.health.asked = book.clock.Now(), time.Time{}
 	}
 	its.Synced += stats.Synced
 	if stats.Made > 0 && book.grown != nil {
@@ -475,7 +476,7 @@ func (book *Book) keepTimes(grown <-chan struct{}) {
 		select {
 		case <-book.stopped:
 			return
-		case <-time.After(time.Second):
+		case <-book.clock.After(time.Second):
 			_, grown = book.Grown() // Before they are written: else one that comes between is missed.
 			book.alone(func(error) { _ = book.flush() })
 		}

@@ -10,6 +10,7 @@ import (
 	"regexp"
 	"strings"
 	"sync"
+	"sync/atomic"
 	"testing"
 	"time"
 
@@ -33,10 +34,25 @@ type kept struct {
 	*testing.T
 	path, config string
 	said         []string
+	clock        Clock
 }
 
 func begin(test *testing.T) *kept {
 	return &kept{T: test, path: filepath.Join(test.TempDir(), "audit"), config: "the cluster\n"}
+}
+
+// beginStill begins with a clock that goes on by what it is told alone.
+func beginStill(test *testing.T) (its *kept, goesOn func(time.Duration)) {
+	its = begin(test)
+	var gone atomic.Int64
+	its.clock.Now = func() time.Time { return time.UnixMilli(1_700_000_000_000 + gone.Load()) }
+	its.clock.After = func(while time.Duration) <-chan time.Time {
+		if while > 0 {
+			return nil
+		}
+		return time.After(0)
+	}
+	return its, func(by time.Duration) { gone.Add(by.Milliseconds()) }
 }
 
 var entries = regexp.MustCompile(`^{"act":(.*),"at":\d+,"by":(\d+),"reply":"done"}\n$`)
@@ -70,6 +86,7 @@ func (its *kept) openAfter(after func(audit []byte) (Guard, error)) (*Book, erro
 		Config:  []byte(its.config),
 		After:   after,
 		Say:     func(what string) { its.said = append(its.said, what) },
+		Clock:   its.clock,
 	})
 }
 
@@ -343,7 +360,7 @@ func TestAKeyWithoutItsEntryIsTakenOut(test *testing.T) {
 	same(test, "and left alone", its.read(its.path+".events"), "something else\n")
 }
 
-func TestThoseWhoWaitShareASync(test *testing.T) {
+func TestWhoeverAsksBesideOthersIsAnsweredInOrder(test *testing.T) {
 	its := begin(test)
 	book := its.must()
 	const clients, acts = 32, 30
@@ -368,14 +385,24 @@ func TestThoseWhoWaitShareASync(test *testing.T) {
 		}(client)
 	}
 	all.Wait()
-	stats := book.Stats()
-	same(test, "the entries", stats.Entries, clients*acts)
-	if stats.Syncs > clients*acts/2 {
-		test.Errorf("%d syncs", stats.Syncs)
-	}
+	same(test, "the entries", book.Stats().Entries, clients*acts)
 	_ = book.Close()
 	book = its.must()
 	same(test, "the entries after a start", book.Stats().Entries, clients*acts)
+	_ = book.Close()
+}
+
+func TestThoseWhoWaitShareASync(test *testing.T) {
+	its, _ := beginStill(test)
+	book := its.must()
+	crowd := &crowd{T: test, book: book}
+	var asks []func()
+	for client := 0; client < 32; client++ {
+		asks = append(asks, func() { ask(book, up(1, "")) })
+	}
+	crowd.together(asks...)
+	stats := book.Stats()
+	same(test, "the entries and syncs", fmt.Sprint(stats.Entries, stats.Syncs), "32 1")
 	_ = book.Close()
 }
 
@@ -552,25 +579,25 @@ func TestAnAuditHasAnIdentityThatStays(test *testing.T) {
 }
 
 func TestTimesGoOnBehindTheLastThatIsDrawn(test *testing.T) {
-	its := begin(test)
+	its, goesOn := beginStill(test)
 	book := its.must()
 	ask(book, up(1, ""))
-	book.alone(func(error) { book.events.begun = time.Now().Add(-3_000_000 * time.Second) })
+	goesOn(3_000_000 * time.Second)
 	ask(book, up(2, ""))
+	goesOn(time.Hour) // The last entry's time is drawn, and not when it was looked at.
 	_, times, err := book.Drawn()
 	if err != nil {
 		test.Fatal(err)
 	}
 	text, _ := io.ReadAll(times)
-	same(test, "the time of the first", strings.Contains(string(text), `{"entry":0,"t":0.000}`), true)
-	last := regexp.MustCompile(`{"entry":1,"t":999999\.\d\d\d}`)
-	same(test, "and of the second", last.Match(text), true)
+	wanted := "{\"entry\":0,\"t\":0.000}\n{\"entry\":1,\"t\":999999.000}\n"
+	same(test, "what is drawn", string(text), wanted)
 	_ = book.Close()
 	events := its.read(its.path + ".events")
-	wanted := regexp.MustCompile(`{"entry":1,"t":999999\.000,"s":300000\d\.\d\d\d,"sum"`)
-	same(test, "the file has it", wanted.MatchString(events), true)
+	const line = `{"entry":1,"t":999999.000,"s":3000000.000,"sum"`
+	same(test, "the file has it", strings.Contains(events, line), true)
 	book = its.must()
-	same(test, "it is read again", book.events.last >= 3_000_000, true)
+	same(test, "it is read again", int(book.events.last), 3_000_000)
 	_ = book.Close()
 }
 
@@ -621,6 +648,7 @@ func TestAFileThatIsGoneEndsTheBook(test *testing.T) {
 			same(test, "why it stops", book.Stop(), wanted)
 			_ = book.Close()
 			its = begin(test)
+			its.clock = Clock{time.Now, func(time.Duration) <-chan time.Time { return time.After(1) }}
 			book = its.must()
 			_ = goes(its.path + end)
 			<-book.Stopped() // Also where nobody asks.
@@ -631,30 +659,27 @@ func TestAFileThatIsGoneEndsTheBook(test *testing.T) {
 }
 
 func TestHealthIsTheAgeOfTheLastSync(test *testing.T) {
-	its := begin(test)
+	its, goesOn := beginStill(test)
 	book := its.must()
 	same(test, "at first", book.Health(0), nil)
-	late := func(by time.Duration) {
-		book.lock.Lock()
-		defer book.lock.Unlock()
-		book.health.answered = time.Now().Add(-by)
-	}
-	late(time.Hour)
+	goesOn(time.Hour)
 	same(test, "the disk is asked", book.Health(time.Hour), nil)
-	same(test, "and answered", book.SyncAge() < time.Hour, true)
-	late(90 * time.Second)
-	hangs := make(chan struct{})
+	same(test, "and answered", book.SyncAge(), time.Duration(0))
+	goesOn(90 * time.Second)
 	book.lock.Lock()
-	book.health.probe = hangs // as one that hangs
+	book.health.probe = make(chan struct{}) // as of one that hangs
 	book.lock.Unlock()
 	const why = "the disk has answered no sync for 90 seconds"
-	same(test, "it hangs", book.Health(time.Millisecond), why)
+	same(test, "it hangs", book.Health(0), why)
 	same(test, "a view waits where nobody acts", book.View(func() {}), nil)
-	book.asks(time.Now().Add(-MostWait - time.Second))
-	late(90 * time.Second)
+	book.asks(book.clock.Now().Add(-MostWait - 1))
 	same(test, "nobody looks", book.View(func() { test.Error("a look") }), why)
+	book.asks(book.clock.Now().Add(-MostWait))
+	same(test, "one may look", book.View(func() {}), nil)
 	ask(book, up(1, ""))
 	same(test, "an act shows that it answers", book.Health(0), nil)
+	goesOn(freshFor)
+	same(test, "but not for ever", book.Health(0) != nil, true)
 	_ = book.Close()
 	same(test, "behind the end", book.Health(0), ErrEnded)
 }
@@ -704,7 +729,6 @@ type crowd struct {
 
 // come has somebody ask, who gets a place in the line of those who wait.
 func (its *crowd) come(ask func()) {
-	its.Helper()
 	its.all.Add(1)
 	number := len(its.caught)
 	its.caught = append(its.caught, nil)
@@ -718,30 +742,20 @@ func (its *crowd) come(ask func()) {
 
 // waits returns once so many wait.
 func (its *crowd) waits(count int) {
-	its.Helper()
-	its.soon(func() bool {
-		its.book.lock.Lock()
-		defer its.book.lock.Unlock()
-		return len(its.book.waiting) >= count
-	})
-}
-
-// soon returns once something holds.
-func (its *crowd) soon(holds func() bool) {
-	its.Helper()
-	until := time.Now().Add(10 * time.Second)
-	for !holds() {
-		if time.Now().After(until) {
-			its.Fatal("it hangs")
-		}
+	for its.waiting() < count {
 		time.Sleep(time.Millisecond)
 	}
 }
 
+func (its *crowd) waiting() int {
+	its.book.lock.Lock()
+	defer its.book.lock.Unlock()
+	return len(its.book.waiting)
+}
+
 // together has everybody wait behind one who looks, who is let go then; and returns once all are
-// answered.
+// answered. The clock of the book has to stand still: else it may come into the line too.
 func (its *crowd) together(asks ...func()) {
-	its.Helper()
 	looks, let := make(chan bool), make(chan bool)
 	go its.book.View(func() {
 		looks <- true
@@ -755,37 +769,11 @@ func (its *crowd) together(asks ...func()) {
 		its.come(ask)
 	}
 	let <- true
-	done := make(chan bool)
-	go func() {
-		its.all.Wait()
-		close(done)
-	}()
-	its.ends(done)
-}
-
-// ends returns once a channel is closed.
-func (its *crowd) ends(done <-chan bool) {
-	its.Helper()
-	select {
-	case <-done:
-	case <-time.After(10 * time.Second):
-		its.Fatal("it hangs")
-	}
-}
-
-// within has a function return soon.
-func (its *crowd) within(do func()) {
-	its.Helper()
-	done := make(chan bool)
-	go func() {
-		defer close(done)
-		do()
-	}()
-	its.ends(done)
+	its.all.Wait()
 }
 
 func TestAPanicOfAViewIsItsCallersAlone(test *testing.T) {
-	its := begin(test)
+	its, _ := beginStill(test)
 	book := its.must()
 	// The one who looks leads, or somebody else does who asks, or who looks.
 	for leader := 0; leader < 3; leader++ {
@@ -813,12 +801,11 @@ func TestAPanicOfAViewIsItsCallersAlone(test *testing.T) {
 		same(test, "another looks", looked, true)
 	}
 	same(test, "the book goes on", book.Stop(), nil)
-	crowd := &crowd{T: test, book: book}
-	crowd.within(func() { same(test, "its end", book.Close(), nil) })
+	same(test, "its end", book.Close(), nil)
 }
 
 func TestAPanicOfTheGuardEndsTheBook(test *testing.T) {
-	its := begin(test)
+	its, _ := beginStill(test)
 	book := its.mustPanicky()
 	ask(book, up(1, ""))
 	crowd := &crowd{T: test, book: book}
@@ -836,18 +823,18 @@ func TestAPanicOfTheGuardEndsTheBook(test *testing.T) {
 	}
 	same(test, "nobody panics", crowd.caught, []any{nil, nil, nil, nil})
 	same(test, "nobody looks at what isn't on the disk", looked, false)
-	crowd.within(func() { <-book.Stopped() })
+	<-book.Stopped()
 	same(test, "why it stops", book.Stop(), "panic: thirteen")
 	same(test, "the audit", its.read(its.path), Header+entry(0, 1))
 	same(test, "a later act", ask(book, up(4, "")).Err, "panic: thirteen")
-	crowd.within(func() { _ = book.Close() })
+	_ = book.Close()
 	book = its.must()
 	same(test, "the key isn't known", string(ask(book, up(2, "k")).Line), entry(1, 2))
 	_ = book.Close()
 }
 
 func TestAPanicOfTheBookEndsIt(test *testing.T) {
-	its := begin(test)
+	its, _ := beginStill(test)
 	book := its.must()
 	ask(book, up(1, ""))
 	kept := book.events
@@ -863,24 +850,23 @@ func TestAPanicOfTheBookEndsIt(test *testing.T) {
 	}
 	same(test, "the audit", its.read(its.path), Header+entry(0, 1))
 	book.alone(func(error) { book.events = kept })
-	crowd.within(func() { _ = book.Close() })
+	_ = book.Close()
 	same(test, "why it stops", book.Stop(), answers[0].Err)
 }
 
 func TestAPanicOfTheTimesEndsTheBook(test *testing.T) {
-	its := begin(test)
+	its, _ := beginStill(test)
 	book := its.must()
 	kept := book.events
 	book.alone(func(error) {
 		book.events = nil
 		_ = book.flush()
 	})
-	crowd := &crowd{T: test, book: book}
-	crowd.within(func() { <-book.Stopped() })
+	<-book.Stopped()
 	is := strings.HasPrefix(book.Stop().Error(), "panic: runtime error")
 	same(test, "a panic is why", is, true)
 	book.alone(func(error) { book.events = kept })
-	crowd.within(func() { _ = book.Close() })
+	_ = book.Close()
 }
 
 func TestNobodyLooksAtWhatIsntOnTheDisk(test *testing.T) {

@@ -35,7 +35,8 @@ type events struct {
 	file  *os.File
 	begun time.Time
 	id    string         // of the audit
-	last  float64        // when the clock was looked at, in seconds
+	now   float64        // when the clock was looked at, in seconds
+	last  float64        // when the last entry came
 	keys  map[string]int // the entry of each key, which stands behind its actor's number
 	next  int            // the entry behind the last one that has a line
 	sum   sum
@@ -85,7 +86,7 @@ func (its *events) goOn(files Files, count int, mode fs.FileMode) error {
 		return err
 	}
 	if whole == 0 {
-		if err := its.begin(mode); err != nil {
+		if err := its.begin(files.Clock.Now(), mode); err != nil {
 			return err
 		}
 	} else if its.next < count {
@@ -93,6 +94,7 @@ func (its *events) goOn(files Files, count int, mode fs.FileMode) error {
 		files.Say(fmt.Sprintf(why, its.file.Name(), its.next, count-1))
 	}
 	if its.next < count {
+		its.now = its.last
 		its.add(count-1, "") // So that this is said once.
 	}
 	return its.flush()
@@ -112,12 +114,11 @@ func (files Files) mayBeginEvents(count int) error {
 
 // begin puts the line that says when the times began. The bytes of chance in it make it, and so the
 // audit, one of a kind.
-func (its *events) begin(mode fs.FileMode) error {
+func (its *events) begin(now time.Time, mode fs.FileMode) error {
 	chance := make([]byte, 16)
 	if _, err := rand.Read(chance); err != nil {
 		return err
 	}
-	now := time.Now()
 	its.begun = now
 	line := append(its.buffer, `{"began":`...)
 	line = strconv.AppendFloat(line, float64(now.UnixMilli())/1000, 'f', 3, 64)
@@ -230,15 +231,17 @@ func (its *events) readHalf(text []byte, whole, count int) (int, error) {
 	return whole, nil
 }
 
-// look looks at the clock, for the entries that are added next.
-func (its *events) look() {
-	if seconds := time.Since(its.begun).Seconds(); its.last < seconds {
-		its.last = seconds
+// look notes the time, for the entries that are added next. None is before the last one's.
+func (its *events) look(now time.Time) {
+	its.now = its.last
+	if seconds := now.Sub(its.begun).Seconds(); its.now < seconds {
+		its.now = seconds
 	}
 }
 
 // add takes in an entry, and its key if there is one.
 func (its *events) add(entry int, once string) {
+	its.last = its.now
 	from := len(its.buffer)
 	line := append(its.buffer, `{"entry":`...)
 	line = strconv.AppendInt(line, int64(entry), 10)

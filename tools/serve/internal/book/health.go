@@ -52,13 +52,11 @@ func (book *Book) areThere() error {
 
 // watch ends the book once a file is gone, also while nobody asks.
 func (book *Book) watch() {
-	looks := time.NewTicker(lookEvery)
-	defer looks.Stop()
 	for {
 		select {
 		case <-book.stopped:
 			return
-		case <-looks.C:
+		case <-book.clock.After(lookEvery):
 			if err := book.areThere(); err != nil {
 				book.fail(err)
 			}
@@ -77,7 +75,7 @@ type health struct {
 func (book *Book) SyncAge() time.Duration {
 	book.lock.Lock()
 	defer book.lock.Unlock()
-	return time.Since(book.health.answered)
+	return book.clock.since(book.health.answered)
 }
 
 // Health is nil where the disk answered a sync just now, or does so within a time.
@@ -88,12 +86,10 @@ func (book *Book) Health(within time.Duration) error {
 	if book.SyncAge() < freshFor {
 		return nil
 	}
-	wait := time.NewTimer(within)
-	defer wait.Stop()
 	select {
 	case <-book.probed():
 		return book.Stop()
-	case <-wait.C:
+	case <-book.clock.After(within):
 		return book.hangs()
 	}
 }
@@ -108,7 +104,7 @@ func (book *Book) isHanging() bool {
 	book.lock.Lock()
 	defer book.lock.Unlock()
 	asked := book.health.asked
-	return !asked.IsZero() && time.Since(asked) > MostWait
+	return !asked.IsZero() && book.clock.since(asked) > MostWait
 }
 
 // probed has the disk asked, one probe at a time. The channel is closed once it answered.
@@ -125,7 +121,7 @@ func (book *Book) probed() <-chan struct{} {
 			if err != nil {
 				book.halt(err)
 			} else {
-				book.health.answered = time.Now()
+				book.health.answered = book.clock.Now()
 			}
 			book.health.probe = nil
 			close(done)

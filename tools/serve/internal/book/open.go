@@ -49,7 +49,18 @@ type Files struct {
 	After func(audit []byte) (Guard, error)
 	// Say tells what was cut.
 	Say func(what string)
+	// Clock is the system's where none is given.
+	Clock Clock
 }
+
+// Clock is the time as a book sees it: what it is, and what has a value once so much of it is gone.
+type Clock struct {
+	Now   func() time.Time
+	After func(time.Duration) <-chan time.Time
+}
+
+// since is how long ago a time was.
+func (clock Clock) since(then time.Time) time.Duration { return clock.Now().Sub(then) }
 
 // Open goes on with an audit, or begins one. It holds the file until the book is closed.
 //
@@ -60,13 +71,16 @@ func Open(files Files) (*Book, error) {
 	if err != nil {
 		return nil, err
 	}
-	book := &Book{audit: audit, stopped: make(chan struct{})}
+	if files.Clock.Now == nil {
+		files.Clock = Clock{time.Now, time.After}
+	}
+	book := &Book{clock: files.Clock, audit: audit, stopped: make(chan struct{})}
 	if err := book.goOn(files); err != nil {
 		_ = audit.Close()
 		return nil, err
 	}
 	book.stats.Entries = book.count
-	book.health.answered = time.Now()
+	book.health.answered = book.clock.Now()
 	_, grown := book.Grown()
 	go book.keepTimes(grown)
 	go book.watch()
