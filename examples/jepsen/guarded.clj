@@ -20,8 +20,8 @@
                     (.POST (HttpRequest$BodyPublishers/ofString line))
                     .build)
         answer (.send @client request (HttpResponse$BodyHandlers/ofString))]
-    (if (= 503 (.statusCode answer))
-      (throw (IOException. "the server ends"))
+    (if (#{502 503 504} (.statusCode answer)) ; the server's, or those of a proxy before it
+      (throw (IOException. "the server isn't there"))
       answer)))
 
 (defn act

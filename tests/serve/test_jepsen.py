@@ -4,11 +4,21 @@ from __future__ import annotations
 
 import json
 import subprocess
-import threading
+from http.server import BaseHTTPRequestHandler, HTTPServer
 
 from common_serve import ROOT, Case, built
 
 EXAMPLE = ROOT / "examples/jepsen/guarded.clj"
+
+
+class Away(BaseHTTPRequestHandler):
+    """What a proxy answers whose server isn't there."""
+
+    def do_POST(self) -> None:
+        self.send_error(502)
+
+    def log_message(self, *_: object) -> None:
+        pass
 
 
 class Jepsen(Case):
@@ -38,8 +48,11 @@ class Jepsen(Case):
             assert running.stdin and running.stdout
             told = [running.stdout.readline().strip() for _ in range(6)]
             server.kill()
-            print(file=running.stdin, flush=True)
-            threading.Timer(3, server.start).start()
+            host, _, port = server.address.rpartition(":")
+            with HTTPServer((host, int(port)), Away) as proxy:
+                print(file=running.stdin, flush=True)
+                proxy.handle_request()
+            server.start()
             told += running.stdout.read().split("\n")
         done = 'reply":"done"}'
         wanted = [":RebootAndDelete", ":Reboot", "nil", done, "{:status 400}", ":kill", "", done]
