@@ -67,20 +67,29 @@ class Clients:
         for client in self.all:
             client.start()
 
+    def go_on(self, dice: random.Random) -> None:
+        """Returns at some moment once each has one more answer."""
+        before = [len(client.answers) for client in self.all]
+        while any(
+            len(client.answers) == count and client.is_alive()
+            for client, count in zip(self.all, before)
+        ):
+            time.sleep(0.001)
+        time.sleep(dice.uniform(0, 0.3))
+
     def end(self, case: TestCase, least: int) -> None:
         """Ends them and the server. Each answer has to stand in the audit once, and nothing else:
         each act was asked for until it was answered."""
         self.is_over.set()
         for client in self.all:
-            client.join(120)
-            case.assertFalse(client.is_alive())
+            client.join()
             case.assertIsNone(client.fault)
         case.assertEqual(self.server.end(), 0)
         entries = self.server.lines()
         case.assertEqual(self.server.check(), f"legal {len(entries)}")
         places = []
         for client in self.all:
-            case.assertGreater(len(client.answers), least)
+            case.assertGreaterEqual(len(client.answers), least)
             ats = [json.loads(answer)["at"] for _, answer in client.answers]
             case.assertEqual(ats, sorted(ats))
             places += ats

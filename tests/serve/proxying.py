@@ -7,7 +7,7 @@ import time
 from pathlib import Path
 from unittest import SkipTest
 
-from common_serve import PATIENCE, ROOT, Case, free_port, run
+from common_serve import ROOT, Case, free_port, run
 
 # What operators write, and what nginx does if they write nothing more: Host is that of proxy_pass.
 PLAIN = ""
@@ -41,9 +41,8 @@ def nginx(case: Case, address: str, more: str = PLAIN, path: str = "/") -> str:
     process = subprocess.Popen(["nginx", "-c", str(folder / "conf"), "-e", str(folder / "log")])
     case.addCleanup(process.wait)
     case.addCleanup(process.kill)
-    until = time.monotonic() + PATIENCE
     while not Path(folder, "pid").exists():
-        if process.poll() is not None or time.monotonic() > until:
+        if process.poll() is not None:
             raise AssertionError(Path(folder, "log").read_text())
         time.sleep(0.01)
     return f"127.0.0.1:{port}"

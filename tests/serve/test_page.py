@@ -23,7 +23,7 @@ class Page(Case):
         if lacks.returncode == 1:
             self.skipTest(lacks.stdout.strip())
         lacks.check_returncode()
-        browser.PATIENCE = 5 * PATIENCE  # A browser takes long on a busy machine.
+        browser.PATIENCE = PATIENCE
         self.browser = Browser(self.folder / "profile")
         self.addCleanup(self.browser.close)
         beat = unittest.mock.patch.dict(os.environ, FAULTYARD_SERVE_BEAT=str(BEAT))

@@ -22,6 +22,7 @@ from common_serve import workshop
 
 NEEDED = "cc", "pkg-config", "libfuse3-dev", "fusermount3", "/dev/fuse"
 STARTS = 20
+ANSWERS = 20  # before the power is cut
 
 
 @functools.cache
@@ -35,6 +36,15 @@ def lossy() -> Path:
     if made.returncode:
         raise AssertionError(made.stderr)
     return program
+
+
+def is_over(process: int) -> bool:
+    """Whether a process has ended, but for what waits for its disk."""
+    states = ""
+    for stat in Path(f"/proc/{process}/task").glob("*/stat"):
+        with suppress(OSError):
+            states += stat.read_text().rpartition(") ")[2][0]
+    return not set(states) - set("DZX")
 
 
 class Disk:
@@ -108,14 +118,14 @@ class Power(Case):
         clients = [Client(server, 10 * seed + number) for number in range(4)]
         for client in clients:
             client.start()
-        time.sleep(random.Random(seed).uniform(0.5, 1.0))
+        while sum(len(client.answers) for client in clients) < ANSWERS:
+            time.sleep(0.01)
+        time.sleep(random.Random(seed).uniform(0, 0.5))
         disk.cut()
         server.stop()
         for client in clients:
-            client.join(60)
-        answers = [it for client in clients for it in client.answers]
-        self.assertGreater(len(answers), 20)
-        return answers
+            client.join()
+        return [it for client in clients for it in client.answers]
 
     def missing(self, disk: Disk, answers: list[tuple[bytes, bytes]]) -> int:
         """How many answers aren't what the disk has in their place."""
@@ -150,26 +160,27 @@ class Power(Case):
         disk.start()
         clients, chance = Clients(server.start(), 8), random.Random(11)
         for _ in range(CUTS):
-            time.sleep(chance.uniform(0.02, 0.4))
+            clients.go_on(chance)
             disk.cut()
             server.stop()
             disk.start()
             server.start()
-        time.sleep(0.2)
+        clients.go_on(chance)
         clients.end(self, CUTS)
         disk.cut()
 
     def test_the_copy_of_the_cluster_file_is_whole_or_not_there(self) -> None:
         disk, server = self.begun()
-        copy, there = disk.durable / "audit.cluster", 0
+        copy, there, pause = disk.durable / "audit.cluster", 0, 0.03
         for seed in range(STARTS):
             disk.start()
             self.addCleanup(run, "fusermount3", "-uz", "--", disk.mount)
             self.addCleanup(disk.process.kill)
             server.process = subprocess.Popen(server.words, stderr=subprocess.DEVNULL)
-            time.sleep(random.Random(seed).uniform(0, 0.06))
+            time.sleep(random.Random(seed).uniform(0, 2 * pause))
             disk.cut()
             server.stop()
+            pause *= 0.9 if copy.exists() else 1.5  # So about every other one comes so far.
             if copy.exists():
                 there += 1
                 self.assertEqual(copy.read_bytes(), server.config.read_bytes())
@@ -183,6 +194,7 @@ class Power(Case):
 
     def test_it_can_be_ended_while_its_disk_hangs(self) -> None:
         disk, server = self.begun()
+        server.words += ["--listen", f"127.0.0.1:{free_port()}"]
         disk.start()
         self.addCleanup(run, "fusermount3", "-uz", "--", disk.mount)
         self.addCleanup(disk.process.kill)
@@ -195,12 +207,13 @@ class Power(Case):
             talk.socket.recv(1)
         assert server.process
         server.process.terminate()
-        with self.assertRaises(subprocess.TimeoutExpired):
-            server.process.wait(0.5)
+        while b"the server ends" not in server.ask("GET", "/healthz")[1]:
+            time.sleep(0.01)
         server.process.terminate()
-        time.sleep(0.5)
+        while not is_over(server.process.pid):
+            time.sleep(0.01)
         disk.process.send_signal(signal.SIGCONT)  # Else the system keeps what has ended.
-        self.assertEqual(server.process.wait(60), -signal.SIGTERM)
+        self.assertEqual(server.process.wait(PATIENCE), -signal.SIGTERM)
         server.start()
         self.assertEqual(server.lines()[0], first)
         self.assertEqual(server.end(), 0)
@@ -214,29 +227,26 @@ class Power(Case):
         self.addCleanup(disk.process.kill)
         server.start()
         talk = server.talk()
-        self.waits_for_health(server, 200)
+        self.waits_for(server, "/healthz", 200)
         disk.process.send_signal(signal.SIGSTOP)
         talk.socket.sendall(kill(0))
-        self.waits_for_health(server, 503)
         for path in ("/healthz", "/v1/status"):
-            status, text = server.ask("GET", path)
-            self.assertEqual(status, 503)
+            text = self.waits_for(server, path, 503)
             self.assertRegex(text.decode(), "the disk has answered no sync for [0-9]+ seconds")
         status, text = server.ask("GET", "/metrics")
         age = re.search(r"^faultyard_sync_age_seconds (\S+)$", text.decode(), re.M)
         self.assertTrue(age and float(age[1]) > 4)
         disk.process.send_signal(signal.SIGCONT)
         self.assertTrue(talk.file.readline())
-        self.waits_for_health(server, 200)
+        self.waits_for(server, "/healthz", 200)
         self.assertEqual(server.end(), 0)
         disk.cut()
 
-    def waits_for_health(self, server: Server, status: int) -> None:
+    def waits_for(self, server: Server, path: str, status: int) -> bytes:
         """Asks until the status is that: the last sync may be young, or slow."""
-        until = time.monotonic() + 2 * PATIENCE
-        while server.ask("GET", "/healthz")[0] != status:
-            self.assertLess(time.monotonic(), until)
+        while (answer := server.ask("GET", path))[0] != status:
             time.sleep(0.1)
+        return answer[1]
 
     def test_a_disk_that_lies_loses_answers(self) -> None:
         """So the test above can fail."""

@@ -371,9 +371,8 @@ class Files(Case):
         self.assertEqual(json.loads(first.ask(kill(0)))["at"], 0)
         for other in others:
             other.close()
-        until = time.monotonic() + PATIENCE
         answer = b""
-        while not answer and time.monotonic() < until:
+        while not answer:
             with suppress(AssertionError, OSError):  # Somebody may still be there.
                 answer = server.talk().ask(kill(0))
         self.assertEqual(json.loads(answer)["at"], 1)
@@ -389,12 +388,15 @@ class Crashes(Case):
     def test_no_answer_is_lost_and_none_is_there_twice_whenever_it_is_killed(self):
         server = self.server().start()
         clients, chance = Clients(server, 8), random.Random(9)
-        for _ in range(KILLS):
-            time.sleep(chance.uniform(0.02, 0.4))
+        for number in range(KILLS):
+            if number % 4:
+                clients.go_on(chance)
+            else:
+                time.sleep(chance.uniform(0, 0.02))  # It may not be asked before it is killed.
             server.kill()
             server.start()
-        time.sleep(0.2)
-        clients.end(self, KILLS)
+        clients.go_on(chance)
+        clients.end(self, KILLS * 3 // 4)
 
     def test_signals_end_it_with_status_0(self):
         for number in (signal.SIGTERM, signal.SIGINT):
@@ -402,7 +404,7 @@ class Crashes(Case):
             talk = server.talk()
             answer = talk.ask(kill(0))
             server.process.send_signal(number)
-            self.assertEqual(server.process.wait(60), 0)
+            self.assertEqual(server.process.wait(PATIENCE), 0)
             self.assertTrue(server.file.read_bytes().endswith(answer))
             self.assertFalse(server.socket.exists())
             self.assertEqual(talk.file.readline(), b"")

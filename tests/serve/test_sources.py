@@ -1,13 +1,29 @@
 """The sources of the server, and the tests of its packages."""
 
+import functools
 import re
 import unittest
 
-from common_serve import LIBRARY, RACE, ROOT, SOURCE, built, go_environment, run
+from common_serve import LIBRARY, RACE, ROOT, SOURCE, built, go_environment, run, workshop
+
+# The header of the library is enough for what isn't linked.
+HEADER = f"""Name: faultyard
+Description: its header
+Version: 0
+Cflags: -I{ROOT / "include"}
+"""
+
+
+@functools.cache
+def unlinked():
+    folder = workshop() / "header"
+    folder.mkdir()
+    (folder / "faultyard.pc").write_text(HEADER)
+    return {**go_environment(), "PKG_CONFIG_PATH": str(folder)}
 
 
 def go(*words):
-    ran = run("go", *words, cwd=SOURCE, env=go_environment())
+    ran = run("go", *words, cwd=SOURCE, env=unlinked())
     if ran.returncode:
         raise AssertionError(ran.stdout + ran.stderr)
     return ran.stdout
@@ -16,14 +32,14 @@ def go(*words):
 class Sources(unittest.TestCase):
     def test_gofmt_and_vet_find_nothing(self):
         self.assertEqual(run("gofmt", "-l", SOURCE).stdout, "")
-        go("vet", "./internal/...")
+        go("vet", "./...")
 
     def test_staticcheck_finds_nothing(self):
         lacks = run(ROOT / "tests/tools/needs", "the flaws of the server's Go", "go-staticcheck")
         if lacks.returncode == 1:
             self.skipTest(lacks.stdout.strip())
         lacks.check_returncode()
-        told = run("go-staticcheck", "./internal/...", cwd=SOURCE, env=go_environment())
+        told = run("go-staticcheck", "./...", cwd=SOURCE, env=unlinked())
         self.assertEqual((told.returncode, told.stdout + told.stderr), (0, ""))
 
     def test_the_packages_under_the_race_detector(self):
