@@ -116,6 +116,7 @@ type Book struct {
 	audit  *os.File
 	events *events
 	places []place // of both files
+	folder *folder
 
 	lock    sync.Mutex
 	waiting []*Party
@@ -271,7 +272,7 @@ func (book *Book) commit(turns []*Turn) error {
 			return err
 		}
 		// Nobody is answered what stands in a file without a name.
-		if err := book.areThere(); err != nil {
+		if err := book.areStillThere(); err != nil {
 			return err
 		}
 		stats.Syncs, stats.Synced = 1, book.clock.since(begun)
@@ -493,6 +494,10 @@ func (book *Book) Close() error {
 			err = closed
 		}
 		_ = book.events.file.Close()
+		if book.folder != nil {
+			_ = book.folder.file.Close()
+			book.folder = nil
+		}
 	})
 	return err
 }

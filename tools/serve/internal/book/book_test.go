@@ -626,36 +626,66 @@ func TestEntriesAreReadInParts(test *testing.T) {
 	_ = book.Close()
 }
 
+// ways are the ways in which a file goes.
+var ways = []func(path string) error{
+	os.Remove,
+	func(path string) error { return os.Rename(path, path+".old") },
+	func(path string) error {
+		_ = os.Rename(path, path+".old")
+		return os.WriteFile(path, []byte(Header), 0o600)
+	},
+}
+
 func TestAFileThatIsGoneEndsTheBook(test *testing.T) {
 	for _, end := range []string{"", ".events"} {
-		for _, goes := range []func(path string) error{
-			os.Remove,
-			func(path string) error { return os.Rename(path, path+".old") },
-			func(path string) error {
-				_ = os.Rename(path, path+".old")
-				return os.WriteFile(path, []byte(Header), 0o600)
-			},
-		} {
+		for _, goes := range ways {
 			its := begin(test)
 			book := its.must()
 			ask(book, up(1, ""))
-			if err := goes(its.path + end); err != nil {
-				test.Fatal(err)
-			}
-			answer := ask(book, up(2, ""))
-			wanted := its.path + end + " was removed or replaced while the server ran"
-			same(test, "the answer", answer.Err, wanted)
-			same(test, "why it stops", book.Stop(), wanted)
-			_ = book.Close()
+			its.endsAsGone(book, end, func() error { return goes(its.path + end) })
+			its = begin(test)
+			book = its.must()
+			its.isStill(book)
+			its.endsAsGone(book, end, func() error { return goes(its.path + end) })
 			its = begin(test)
 			its.clock = Clock{time.Now, func(time.Duration) <-chan time.Time { return time.After(1) }}
 			book = its.must()
 			_ = goes(its.path + end)
 			<-book.Stopped() // Also where nobody asks.
-			same(test, "why it stops", book.Stop(), its.path+end+wanted[len(its.path+end):])
+			same(test, "why it stops", book.Stop(), its.path+end+gone)
 			_ = book.Close()
 		}
 	}
+	its := begin(test)
+	book := its.must()
+	its.isStill(book)
+	folder := filepath.Dir(its.path)
+	its.endsAsGone(book, "", func() error { return os.Rename(folder, folder+".old") })
+}
+
+const gone = " was removed or replaced while the server ran"
+
+// endsAsGone has a file go, whose name has this end. Nobody is answered then.
+func (its *kept) endsAsGone(book *Book, end string, goes func() error) {
+	its.Helper()
+	if err := goes(); err != nil {
+		its.Fatal(err)
+	}
+	same(its.T, "the answer", ask(book, up(2, "")).Err, its.path+end+gone)
+	same(its.T, "why it stops", book.Stop(), its.path+end+gone)
+	_ = book.Close()
+}
+
+// isStill asks until the folder wasn't changed for a while, so that its times say enough.
+func (its *kept) isStill(book *Book) {
+	its.Helper()
+	for isStill := false; !isStill; time.Sleep(time.Millisecond) {
+		ask(book, up(1, ""))
+		book.alone(func(error) {
+			isStill = book.folder == nil || book.folder.changed[0].Sec > 0
+		})
+	}
+	same(its.T, "the folder has times", book.folder != nil, true)
 }
 
 func TestHealthIsTheAgeOfTheLastSync(test *testing.T) {

@@ -3,6 +3,7 @@ package book
 import (
 	"fmt"
 	"os"
+	"path/filepath"
 	"syscall"
 	"time"
 
@@ -46,6 +47,66 @@ func (book *Book) areThere() error {
 		if err := place.isThere(); err != nil {
 			return err
 		}
+	}
+	return nil
+}
+
+// folder is where the files lie, and when it was changed last before they were looked for there.
+type folder struct {
+	file    *os.File
+	changed [2]syscall.Timespec
+}
+
+// tick is longer than what two changes may be apart that have the same time.
+const tick = 50 * time.Millisecond
+
+// openFolder opens the folder of a book. It is nil where its times don't say whether the files still
+// have their names: they have no fractions of a second, or a name is a link to elsewhere.
+func (book *Book) openFolder() *folder {
+	for _, place := range book.places {
+		info, err := os.Lstat(place.path)
+		if err != nil || !info.Mode().IsRegular() {
+			return nil
+		}
+	}
+	file, err := os.Open(filepath.Dir(book.audit.Name()))
+	if err != nil {
+		return nil
+	}
+	its := &folder{file: file}
+	if changed, err := its.times(); err != nil || changed[0].Nsec == 0 && changed[1].Nsec == 0 {
+		_ = file.Close()
+		return nil
+	}
+	return its
+}
+
+// times are when its entries were changed last, and when it was.
+func (its *folder) times() (changed [2]syscall.Timespec, err error) {
+	var told syscall.Stat_t
+	err = syscall.Fstat(int(its.file.Fd()), &told)
+	return [2]syscall.Timespec{told.Mtim, told.Ctim}, err
+}
+
+// areStillThere says what areThere says, and looks at the files only where their folder was changed
+// since, or just now. To find two files by their paths takes a fifth of a round trip. Whoever calls
+// it leads.
+func (book *Book) areStillThere() error {
+	its := book.folder
+	if its == nil {
+		return book.areThere()
+	}
+	before := time.Now().Add(-tick).UnixNano()
+	changed, err := its.times()
+	isOld := err == nil && changed[0].Nano() < before && changed[1].Nano() < before
+	if isOld && changed == its.changed {
+		return nil
+	}
+	if err := book.areThere(); err != nil {
+		return err
+	}
+	if isOld { // Else it may be changed again without having another time.
+		its.changed = changed
 	}
 	return nil
 }

@@ -136,7 +136,11 @@ func (book *Book) goOn(files Files) error {
 		}
 		book.places = append(book.places, place)
 	}
-	return syncFolder(files.Audit)
+	if err := syncFolder(files.Audit); err != nil {
+		return err
+	}
+	book.folder = book.openFolder()
+	return nil
 }
 
 // cut takes off half a last line, writes the header where there is none, and brings all to the
