@@ -60,8 +60,8 @@ type folder struct {
 // tick is longer than what two changes may be apart that have the same time.
 const tick = 50 * time.Millisecond
 
-// openFolder opens the folder of a book. It is nil where its times don't say whether the files still
-// have their names: they have no fractions of a second, or a name is a link to elsewhere.
+// openFolder opens the folder of a book. It is nil where its times don't say whether the files
+// still have their names: they have no fractions of a second, or a name is a link to elsewhere.
 func (book *Book) openFolder() *folder {
 	for _, place := range book.places {
 		info, err := os.Lstat(place.path)
