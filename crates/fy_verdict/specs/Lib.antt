@@ -1,1 +1,4 @@
+pub mod Whole
+pub mod Faults
 pub mod Found
+pub mod Told

@@ -1,0 +1,16 @@
+use Rattle.std.specs.Io.KnownBytes.{Appends}
+use Rattle.fy_lines.specs.Prefixes.{AppendsProperPrefix}
+use Rattle.fy_verdict.proofs.Telling.{bad_out}
+use Rattle.fy_verdict.proofs.engine.refute.Goals as goal
+
+pub returns-clause-refuted : goal.returns-clause-refuted
+returns-clause-refuted g c = λ setup known found.
+    bad_out setup known c.args.finding
+    (Appends (g.W.Write.contents c.args.writer.now) (g.W.Write.contents c.write_finding.new.writer)) c.requires found
+    c.in_ok-write_finding.ensures.line
+
+pub returns-in_err-write_finding-clause-front_out : goal.returns-in_err-write_finding-clause-front_out
+returns-in_err-write_finding-clause-front_out g c = λ setup known found.
+    bad_out setup known c.args.finding
+    (AppendsProperPrefix (g.W.Write.contents c.args.writer.now) (g.W.Write.contents c.write_finding.new.writer)) c.requires
+    found c.in_err-write_finding.ensures.short
