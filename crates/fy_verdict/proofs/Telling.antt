@@ -1,5 +1,5 @@
 -- what is told of an audit and a history, put together
-use Rattle.std.proofs.Common.{◌≡◌, ◌≢◌, ◌∙◌, ◌||◌, ℕ, nat_lt, Bool, true, false, if◌then◌else◌, List, Option, None, Some, IfSome, Result, Ok, Err, IfOk, IfErr, is_some, length, refl, ap, subst, sym}
+use Rattle.std.proofs.Common.{◌≡◌, ◌≢◌, ◌∙◌, ◌||◌, ℕ, nat_lt, Bool, true, false, if◌then◌else◌, List, Option, None, Some, IfSome, Result, Ok, Err, IfOk, IfErr, OnErr, is_some, length, refl, ap, subst, sym}
 use Rattle.fy_acts.specs.declared.entry.Entry.{Entry}
 use Rattle.fy_check.specs.declared.check.Finding.{Finding}
 use Rattle.fy_cluster.specs.Execution.{Execution}
@@ -174,6 +174,11 @@ told_or_not (Ok _) P legal own = tt
 told_or_not (Err (Line number fault)) P legal own = tt
 told_or_not (Err (Other (Audit fault))) P legal own = absurd own
 told_or_not (Err (Other _)) P legal own = tt
+
+-- what holds, holds of an error
+pub on_err : {A E : Type 0} (r : Result A E) (P : Type 0) → P → OnErr r P
+on_err (Ok _) P p = tt
+on_err (Err _) P p = p
 
 -- the line of an audit with a bad entry
 pub bad_out : (setup : Setup) (known : Option (List ℕ)) (finding : Finding) (goes : List ℕ → Type 0)
