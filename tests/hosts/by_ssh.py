@@ -79,11 +79,13 @@ class Case(unittest.TestCase):
         return path
 
     def start(self, *words):
-        words = [*TOOL, *ETCD, "--on", self.on, "--out", self.out, *words]
+        return self.begun(*ETCD, "--on", self.on, "--out", self.out, *words)
+
+    def begun(self, *words):
+        """The tool, with these words."""
         pipe = subprocess.PIPE
-        words = list(map(str, words))
         more = {"stdout": pipe, "stderr": pipe, "text": True, "cwd": self.room}
-        running = subprocess.Popen(words, **more)
+        running = subprocess.Popen([*TOOL, *map(str, words)], **more)
         self.addCleanup(running.kill)
         return running
 

@@ -1,22 +1,28 @@
 """A run by ssh whose tool, guard, ssh or sshd is killed at random moments, while hosts are cut off
 and processes destroyed: it goes on, or `--resume` goes on with it, and it ends with its verdict.
 
-HOSTS_DEATHS says how many moments there are, 5 without it, and HOSTS_FIRST the first of them.
+HOSTS_DEATHS says how many moments there are, 5 without it, HOSTS_FIRST the first of them, and
+HOSTS_AT_ONCE how many runs there are at once, each on three hosts of its own.
 """
 import json
 import os
 import random
 import re
+import shutil
 import subprocess
 import time
+import traceback
 import unittest
+from concurrent.futures import ThreadPoolExecutor
+from pathlib import Path
+from queue import SimpleQueue
 
-from by_ssh import HOSTS, LAB, ROOT, TOOL, Case, killed, those
+from by_ssh import HERE, LAB, Case, killed, those
 from rows import NEMESIS
 
-
-DEATHS, FIRST = (int(os.environ.get(f"HOSTS_{it}", n)) for it, n in (("DEATHS", 5), ("FIRST", 0)))
-THREE = HOSTS[:3]
+DEATHS, FIRST, AT_ONCE = (
+    int(os.environ.get(f"HOSTS_{it}", n)) for it, n in (("DEATHS", 5), ("FIRST", 0), ("AT_ONCE", 1))
+)
 SECONDS = 8  # for which each run writes
 VICTIMS = ("tool", "guard", "ssh", "sshd", "tool")
 
@@ -27,7 +33,12 @@ def wait_until(what, holds):
         time.sleep(0.02)
 
 
-def tables(hosts=THREE):
+def three(which):
+    """The hosts of so manyth run."""
+    return [f"h{3 * which + n}" for n in range(3)]
+
+
+def tables(hosts):
     """The tables of nftables that hosts have, by their networks."""
     found = []
     for host in hosts:
@@ -41,7 +52,7 @@ def tables(hosts=THREE):
 def hears(receiver, sender):
     """Whether a host is answered by another: a port where nobody listens is refused at once."""
     pid = (LAB / sender / "pid").read_text().strip()
-    at = f"10.77.0.1{receiver[1:]}"
+    at = f"10.77.0.{10 + int(receiver[1:])}"
     ask = ["timeout", "2", "bash", "-c", f"< /dev/tcp/{at}/9"]
     ran = subprocess.run(
         ["nsenter", f"--net=/proc/{pid}/ns/net", *ask], stderr=subprocess.DEVNULL, check=False
@@ -49,21 +60,30 @@ def hears(receiver, sender):
     return ran.returncode == 1
 
 
+def sshd_of(host):
+    """The servers of a machine, and their sessions: by its namespace of processes."""
+    maker = (LAB / host / "pid").read_text().strip()
+    init = Path(f"/proc/{maker}/task/{maker}/children").read_text().split()[0]
+    space, found = os.readlink(f"/proc/{init}/ns/pid"), []
+    for pid in those(r"^sshd: "):
+        try:
+            if os.readlink(f"/proc/{pid}/ns/pid") == space:
+                found.append(pid)
+        except FileNotFoundError:
+            pass  # it has ended
+    return found
+
+
 class Lab(Case):
     """etcd on three machines."""
 
-    def start(self, *words):
-        on = f"ssh -F {LAB}/ssh_config:{','.join(THREE)}"
-        store = [NEMESIS / "three.toml", ROOT / "examples/etcd/hooks", "--on", on]
-        return self.begun(*store, "--out", self.out, "--net", *words)
+    hosts = three(0)
 
-    def begun(self, *words):
-        command = list(map(str, [*TOOL, *words]))
-        pipe = subprocess.PIPE
-        more = {"stdout": pipe, "stderr": pipe, "text": True, "cwd": self.room}
-        running = subprocess.Popen(command, **more)
-        self.addCleanup(running.kill)
-        return running
+    def start(self, *words):
+        config = shutil.copy(NEMESIS / "three.toml", self.room)  # by which its guard is known
+        on = f"ssh -F {LAB}/ssh_config:{','.join(self.hosts)}"
+        store = [config, HERE / "paced", "--on", on]
+        return self.begun(*store, "--out", self.out, "--net", *words)
 
     def faults(self, dice, seconds):
         """A file of events: kills, clogs and partitions, drawn."""
@@ -84,10 +104,14 @@ class Lab(Case):
         path.write_text("".join(json.dumps(line) + "\n" for line in lines))
         return path
 
+    def left(self):
+        """What runs of a run, which isn't the only one."""
+        return those(rf"^(\S*/)?etcd .*{self.room}/|^ssh .*{self.room}/|{self.out}/\d ")
+
     def assert_all_over(self):
         """Nothing runs that was started, and nothing is cut; for how long that was otherwise."""
         began = time.monotonic()
-        wait_until("the end of all", lambda: not self.left() and not tables())
+        wait_until("the end of all", lambda: not self.left() and not tables(self.hosts))
         return time.monotonic() - began
 
 
@@ -101,7 +125,7 @@ class Cuts(Lab):
         order = {"t": 1, "what": "partition", "shape": "one", "clogged": seconds, "cuts": cuts}
         path.write_text(json.dumps(order) + "\n")
         running = self.start("--seconds", seconds + 5, "--replay", path, *self.PATIENT)
-        wait_until("the cut", lambda: running.poll() is not None or len(tables()) == 3)
+        wait_until("the cut", lambda: running.poll() is not None or len(tables(self.hosts)) == 3)
         wait_until("all of it", lambda: not hears("h0", "h1") and not hears("h2", "h0"))
         self.assertTrue(hears("h1", "h2"))
         return running
@@ -110,10 +134,10 @@ class Cuts(Lab):
         """It is renewed for longer than a lease, and ssh goes through all the time."""
         running = self.cut_off(25)
         time.sleep(15)
-        self.assertEqual((hears("h0", "h1"), len(tables())), (False, 3))
+        self.assertEqual((hears("h0", "h1"), len(tables(self.hosts))), (False, 3))
         told = self.ended(running, 0)
         self.assertRegex(told, r"1 partitions: .*\n(.*\n)*[1-9]\d* acknowledged: \d+ kept, 0 lost")
-        self.assertEqual(tables(), [])
+        self.assertEqual(tables(self.hosts), [])
 
     def test_a_cut_ends_by_itself_where_the_tool_is_killed(self):
         running = self.cut_off(60)
@@ -126,7 +150,7 @@ class Cuts(Lab):
         running = self.cut_off(60)
         running.terminate()
         self.assertEqual(running.wait(), 128 + 15)
-        self.assertEqual(tables(), [])
+        self.assertEqual(tables(self.hosts), [])
         self.assert_nothing_left()
 
 
@@ -181,35 +205,35 @@ class Cables(Lab):
         self.assertRegex(told, r"\n([1-9]\d*) acknowledged: \d+ kept, 0 lost, 0 missing")
 
 
-class Deaths(Lab):
-    def test_whatever_dies_the_run_ends_with_its_verdict(self):
-        longest = 0.0
-        for turn in range(FIRST, FIRST + DEATHS):
-            victim = VICTIMS[turn % len(VICTIMS)]
-            with self.subTest(turn=turn, victim=victim):
-                self.out = self.room / f"death-{turn}"
-                lasted = self.one(victim, random.Random(f"death {turn}"))
-                longest = max(longest, lasted)
-                print(f"death {turn}, of {victim}: all was over after {lasted:.1f} s", flush=True)
-        print(f"{DEATHS} deaths: all was over after {longest:.1f} s at most", flush=True)
+class Death(Lab):
+    """One of many runs at once, on hosts of its own."""
 
-    def one(self, victim, dice):
-        faults = self.faults(dice, SECONDS)
+    def __init__(self, turn, room, hosts):
+        super().__init__()
+        self.turn, self.room, self.hosts, self.out = turn, room, hosts, room / f"death-{turn}"
+        self.victim, self.dice = VICTIMS[turn % len(VICTIMS)], random.Random(f"death {turn}")
+
+    def runTest(self):
+        pass
+
+    def whole(self):
+        """For how long anything of it was left at its ends."""
+        faults = self.faults(self.dice, SECONDS)
         words = ("--seconds", SECONDS, "--replay", faults, "--hook-timeout", 30, "--quiet")
         running = self.start(*words, "--writers", 1, "--readers", 0)  # few are judged soon
         try:
-            return self.died(victim, dice, running)
+            return self.died(running)
         finally:
             running.kill()  # else it would go on beside the next
 
-    def died(self, victim, dice, running):
+    def died(self, running):
         wait_until("the beginning", lambda: running.poll() is not None or self.events("ready"))
-        time.sleep(dice.uniform(0, SECONDS))
-        getattr(self, victim)(running)
+        time.sleep(self.dice.uniform(0, SECONDS))
+        getattr(self, self.victim)(running)
         told, said = running.communicate()
         lasted = self.assert_all_over()
         status = running.returncode
-        if victim == "guard" and "guard was started again" not in told:
+        if self.victim == "guard" and "guard was started again" not in told:
             self.assertEqual(status, 0, told + said)  # it died after its last answer
         for _ in range(3):
             if status == 0:
@@ -226,13 +250,40 @@ class Deaths(Lab):
         running.kill()
 
     def guard(self, running):
-        killed(those(rf"faultyard guard {re.escape(str(NEMESIS))}"))
+        killed(those(rf"faultyard guard {re.escape(str(self.room))}/"))
 
     def ssh(self, running):
-        killed(those(rf"^ssh .*{self.room}"))
+        killed(those(rf"^ssh .*{self.room}/"))
 
     def sshd(self, running):
-        killed(those(r"^sshd: (root|.*/h[012]/sshd_config)"))
+        killed([pid for host in self.hosts for pid in sshd_of(host)])
+
+
+class Deaths(Case):
+    def test_whatever_dies_the_run_ends_with_its_verdict(self):
+        free, wrong, longest = SimpleQueue(), [], [0.0]
+        for which in range(AT_ONCE):
+            free.put(three(which))
+
+        def one(turn):
+            hosts, room = free.get(), self.room / str(turn)
+            room.mkdir()
+            it = Death(turn, room, hosts)
+            try:
+                longest.append(it.whole())
+                end = f"all was over after {longest[-1]:.1f} s"
+            except Exception:  # the others go on
+                wrong.append(f"death {turn}, of {it.victim}: {traceback.format_exc()}")
+                end = wrong[-1]
+            finally:
+                it.doCleanups()
+                free.put(hosts)
+            print(f"death {turn}, of {it.victim}: {end}", flush=True)
+
+        with ThreadPoolExecutor(AT_ONCE) as pool:
+            list(pool.map(one, range(FIRST, FIRST + DEATHS)))
+        print(f"{DEATHS} deaths: all was over after {max(longest):.1f} s at most", flush=True)
+        self.assertEqual(wrong, [])
 
 
 if __name__ == "__main__":

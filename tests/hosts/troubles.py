@@ -21,7 +21,7 @@ def within(host, *words, **more):
 
 
 class Troubles(Case):
-    def begun(self, *orders, seconds=8, limit=PATIENT):
+    def ready(self, *orders, seconds=8, limit=PATIENT):
         words = ("--seconds", seconds, "--replay", self.given(*orders))
         running = self.start(*words, *limit)
         wait_until("the beginning", lambda: self.events("ready") or running.poll() is not None)
@@ -34,7 +34,7 @@ class Troubles(Case):
         self.assertRegex(told, r" 0 unreadable, 0 wrong; audit legal ")
 
     def test_a_host_loses_half_of_what_it_gets(self):
-        running = self.begun((1, "e1", "RebootAndDelete"))
+        running = self.ready((1, "e1", "RebootAndDelete"))
         within("h1", "nft", "--file", "-", input=HALF)
         wait_until("the kill", lambda: self.events("killed") or running.poll() is not None)
         within("h1", "nft", "delete", "table", "inet", "half")
@@ -42,7 +42,7 @@ class Troubles(Case):
         self.assert_kept(self.ended(running, 0))
 
     def test_a_host_has_no_space(self):
-        running = self.begun((1, "e1", "RebootAndDelete"))
+        running = self.ready((1, "e1", "RebootAndDelete"))
         within("h1", "mount", "-o", "remount,size=4m", "/tmp")
         self.addCleanup(within, "h1", "mount", "-o", "remount,size=50%", "/tmp")
         told = self.ended(running, 0)
@@ -52,7 +52,7 @@ class Troubles(Case):
 
     def test_a_host_comes_back_with_another_key(self):
         """Nothing is done there from then on: the run ends, and says why and who may run."""
-        running = self.begun((4, "e1", "RebootAndDelete"), seconds=60, limit=("--hook-timeout", 10))
+        running = self.ready((4, "e1", "RebootAndDelete"), seconds=60, limit=("--hook-timeout", 10))
         known = (LAB / "known_hosts").read_text()
         self.addCleanup((LAB / "known_hosts").write_text, known)
         keys = dict(line.split(" ", 1) for line in known.splitlines())

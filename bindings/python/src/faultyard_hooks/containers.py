@@ -22,8 +22,9 @@ signal_all() {
     fi
 }
 enter() { true; }
+run() { engine run --rm --label faultyard-nemesis "$@"; }
 files() {
-    engine run --rm --interactive --network none --user 0 --volume "$name:$folder" \\
+    run --interactive --network none --user 0 --volume "$name:$folder" \\
         --entrypoint sh "$image" -c '"$@"' sh "$@"
 }
 is_there() { engine volume inspect "$name" > /dev/null 2>&1; }
@@ -48,13 +49,19 @@ true
 HOLD = """
 engine rm --force "$name" > /dev/null 2>&1
 [ -z "$user" ] || files chown "$user:" "$folder" || exit 97
-engine run --rm --interactive --name "$name" --network host --user "${user:-0}" \\
+run --interactive --name "$name" --network host --user "${user:-0}" \\
     --volume "$name:$folder" --workdir "$folder" --entrypoint sh $options "$image" \\
     -c "$within" sh "$@"
 """
+# Where podman was killed with a tool, its containers end, and stay in its list as if they ran. A
+# run removes those of runs before it; their volumes stay, by which such a run may be resumed.
 ABLE = """
-engine run --rm --network none --user 0 --entrypoint sh "$image" -c 'command -v tar > /dev/null' \\
+run --network none --user 0 --entrypoint sh "$image" -c 'command -v tar > /dev/null' \\
     > /dev/null || echo "no container of $image runs sh, or it has no tar"
+for it in $(engine ps --all --quiet --filter label=faultyard-nemesis); do
+    [ -d "/proc/$(engine inspect --format '{{.State.Pid}}' "$it")" ] \\
+        || engine exec "$it" sh -c : || engine rm --force "$it"
+done > /dev/null 2>&1
 """
 
 

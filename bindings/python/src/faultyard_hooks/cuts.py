@@ -74,11 +74,16 @@ class Cuts:
             self._lose(b, senders)
 
     def mend(self) -> None:
-        """All hear each other again."""
-        for n in range(len(HOSTS)):
-            with self._senders(n) as senders:
-                senders.clear()
-                self._driver.ask(n, MEND, self._table)
+        """All hear each other again. One that hangs keeps none of the others waiting."""
+        from concurrent.futures import ThreadPoolExecutor  # which no other hook of these needs
+
+        with ThreadPoolExecutor(len(HOSTS)) as pool:
+            list(pool.map(self._mend_one, range(len(HOSTS))))
+
+    def _mend_one(self, n: int) -> None:
+        with self._senders(n) as senders:
+            senders.clear()
+            self._driver.ask(n, MEND, self._table)
 
     def begin(self) -> None:
         """Leaves a process that renews the cuts for as long as its keeper lives."""

@@ -7,6 +7,7 @@ import shlex
 import subprocess
 import sys
 import time
+from contextlib import suppress
 from typing import Any, Callable, Dict, List, Sequence
 
 from . import COUNT, DIR
@@ -17,6 +18,20 @@ OPTIONS = "-o BatchMode=yes -o ConnectTimeout=4 -o ServerAliveInterval=2 -o Serv
 HERE = "here"  # in place of hosts: beside the tool, and not by ssh
 LONGEST = 80  # characters of a path at which a socket may stand
 MASTER = 8.0  # seconds until a host is asked without a master
+# A master, and another one whenever it has ended, unless the first makes no socket. The socket of
+# one that was killed stays, and would be in the way of the next.
+KEPT = """
+"$@" &
+until [ -S "$0" ]; do
+    kill -0 $! 2> /dev/null || exit
+    sleep 0.1
+done
+wait
+while rm -f "$0"; do
+    "$@"
+    sleep 1
+done
+"""
 
 
 class Ssh(Places):
@@ -72,6 +87,9 @@ class Ssh(Places):
             Cuts(self, self.port).begin()
 
     def _begin_masters(self) -> None:
+        for n in range(len(self.hosts)):
+            with suppress(FileNotFoundError):
+                os.unlink(self._socket(n))
         masters = [self._master(n) for n in range(len(self.hosts))]
         until = time.monotonic() + MASTER
         for n, master in enumerate(masters):
@@ -85,7 +103,8 @@ class Ssh(Places):
             return None
         over = ["-M", "-T", "-N", "-S", self._socket(n)]
         words = [*self.command, *over, *OPTIONS.split(), self.hosts[n]]
-        return subprocess.Popen(words, stdin=subprocess.DEVNULL, stdout=sys.stderr)
+        kept = ["sh", "-c", KEPT, self._socket(n), *words]
+        return subprocess.Popen(kept, stdin=subprocess.DEVNULL, stdout=sys.stderr)
 
     def _socket(self, n: int) -> str:
         path = f"{DIR}/.ssh{n}"
