@@ -13,10 +13,10 @@ HALF = """table inet half {
 
 
 def within(host, *words, **more):
-    """Runs a command with the network and the mounts of a machine."""
+    """Runs a command with the network, the mounts and the processes of a machine."""
     maker = (LAB / host / "pid").read_text().strip()
     init = Path(f"/proc/{maker}/task/{maker}/children").read_text().split()[0]
-    command = ["nsenter", "--target", init, "--net", "--mount", *words]
+    command = ["nsenter", "--target", init, "--net", "--mount", "--pid", *words]
     subprocess.run(command, check=True, text=True, **more)
 
 

@@ -5,8 +5,8 @@ from __future__ import annotations
 import asyncio
 import io
 import json
-from collections.abc import Awaitable, Callable
-from contextlib import redirect_stderr
+from collections.abc import Awaitable, Callable, Collection, Iterator
+from contextlib import contextmanager, redirect_stderr
 from pathlib import Path
 from typing import Any
 from unittest.mock import patch
@@ -15,6 +15,7 @@ import clock
 import lab
 from lab import Case, Ran
 from nemesis import main
+from resumed import Dying
 from toy import Call, Crashes, Mode, Process, Toy, ends, forever, hangs
 
 LISTED = "start ready whole write read check kill empty join leave name pause resume"
@@ -104,6 +105,66 @@ class Attached(Case):
         run = clock.run
         with patch.object(lab.clock, "run", lambda it: run(whole(it))):
             return self.ran(*words, toy=toy, status=status)
+
+
+class Resumes(Attached, Dying):
+    """A run died that had attached: the cluster is up when it is gone on with."""
+
+    @contextmanager
+    def beside(self, toy: Running, up: Collection[int]) -> Iterator[None]:
+        """These members of a store run before the tool does."""
+        toy.home, run = self.room / "home", clock.run
+
+        async def whole(it: Any) -> int:
+            for number in up:
+                await toy.run(number)
+            try:
+                return int(await it)
+            finally:
+                self.after = set(toy.members)
+
+        with patch.object(clock, "run", lambda it: run(whole(it))):
+            yield
+
+    def test_it_is_left_up_and_whole(self) -> None:
+        """It dies as p1 has been emptied, and isn't whole: that is done again."""
+        self.room.joinpath("home").mkdir()
+        first, second = Running(), Running(1)
+        given = self.given((1, "p1", "RebootAndDelete"), (5, "p0", "Reboot"))
+        words = (*NAMED, "--seconds", 7, *given)
+        with self.beside(first, range(3)):
+            folder = self.died(self.room / "run", *words, toy=first, at=1.5)
+        self.assertEqual(first.emptied, [1, 1])  # when it was struck, and before its `join`
+        self.follow(first, second)
+        with self.beside(second, (0, 2)):
+            it = self.resumed(folder, second, 0)
+        self.assertIsNone(it.is_history())
+        self.assertIn("\norders-test is left as it was found: all are up and whole\n", it.told)
+        self.assertEqual(self.after, {0, 1, 2})
+        self.assertEqual(set(second.emptied), {1})
+        calls = {call for call in second.calls if call.split()[0] in ("start", "kill", "setup")}
+        self.assertEqual(calls, {"kill 1", "start 1", "kill 0", "start 0"})
+        self.assertEqual([event["process"] for event in it.events("heal")], [1])
+        self.assert_true(it)
+
+    def test_another_cluster_is_not_touched(self) -> None:
+        self.room.joinpath("home").mkdir()
+        first, second = Running(), Running(1)
+        with self.beside(first, range(3)):
+            folder = self.died(
+                self.room / "run", *NAMED, "--seconds", 7, *self.given(), toy=first, at=3.0
+            )
+
+        async def name(call: Call) -> int:
+            call.print("orders")
+            return 0
+
+        second.own["name"] = name
+        with self.beside(self.follow(first, second), range(3)):
+            it = self.resumed(folder, second, 2)
+        self.assertIn("the cluster is 'orders' by the hook `name`; nothing was touched", it.told)
+        words = {call.split()[0] for call in second.calls}
+        self.assertEqual(words, {"hooks", "name"})
 
 
 class Attaches(Attached):

@@ -26,6 +26,7 @@ from pathlib import Path
 import histories
 import keeper
 import lab
+import resumed
 import toy
 from nemesis import store
 
@@ -382,6 +383,8 @@ class Aborts(Case):
 
 
 class Others(Case):
+    ORDER = {"key": "processid", "value": "p1", "floor": "RebootProcess", "tear": 0}
+
     def served(self):
         """Starts a server with this cluster; the command starts it again once it was killed."""
         binary = os.environ.get("FAULTYARD_SERVE", ROOT / "bin/faultyard-serve")
@@ -425,13 +428,7 @@ class Others(Case):
         """A real server, and a run in virtual time: while it is asked or killed no time passes."""
         start, door = self.served()
         servers, asked = [start()], []
-        order = {
-            "key": "processid",
-            "value": "p1",
-            "kind": "RebootAndDelete",
-            "floor": "RebootProcess",
-            "tear": 0,
-        }
+        order = self.ORDER | {"kind": "RebootAndDelete"}
 
         def order_by(by, act):
             servers[-1].kill()
@@ -460,6 +457,32 @@ class Others(Case):
         again = lab.ran(toy.Toy(), self.room / "again", "--guard", door)
         self.assertEqual(again.status, 2)
         self.assertIn(f"{door} has entries: a run needs a new audit", again.told)
+
+
+class Resumed(resumed.Dying):
+    def test_what_others_ordered_meanwhile_is_done(self):
+        """The server of a run that died answers on: it is gone on with behind its audit."""
+        others = Others()
+        others.setUp()
+        self.addCleanup(others.doCleanups)
+        start, door = others.served()
+        start()
+        first, second = resumed.Mortal(1), resumed.Mortal(2)
+        words = ("--seconds", 8, *self.given((1.0, "p0", "Reboot"), (7.0, "p2", "Reboot")))
+        folder = self.died(self.room / "run", "--guard", door, *words, toy=first, at=3.0)
+        kill = {"kill": others.ORDER | {"kind": "RebootAndDelete"}}
+        told = others.ask(door, {"by": 2, "act": kill})
+        self.assertEqual(told["reply"]["verdict"]["struck"], "RebootAndDelete")
+        it = self.resumed(folder, self.follow(first, second), 0)
+        self.assertIsNone(it.is_history())
+        done = [(order["by"], order["targets"], order["does"]) for order in it.orders()]
+        wanted = [(1, [0], "Reboot"), (2, [1], "RebootAndDelete"), (1, [2], "Reboot")]
+        self.assertEqual(done, wanted)
+        self.assertIn("join 1", second.calls)
+        self.assertEqual([event["process"] for event in it.events("heal")], [1])
+        self.assertEqual(len(it.audit()), others.answer(door, {"from": 0})["to"])
+        self.assertIn(f"audit legal {len(it.audit())}", it.told)
+        self.assert_true(it)
 
 
 def cases(suite):

@@ -16,7 +16,7 @@ from collections import Counter
 from contextlib import ExitStack, redirect_stderr, suppress
 from pathlib import Path
 from random import Random
-from typing import Any
+from typing import Any, TypeVar
 from unittest.mock import patch
 
 import clock
@@ -26,6 +26,7 @@ from lab import CLUSTER, HOOKS, Case, Ran
 from nemesis import main
 from toy import Call, Drops, Mode, Toy, ends
 
+_Store = TypeVar("_Store", bound=Toy)
 READERS = "start ready whole write read check salvage"
 
 
@@ -90,7 +91,7 @@ class Dying(Case):
         self.assertEqual(ended, status, it.told)
         return it
 
-    def follow(self, first: Toy, second: Toy) -> Toy:
+    def follow(self, first: Toy, second: _Store) -> _Store:
         """Another store, which knows of the one before what a store has on its disks."""
         second.acked, second.ok_at = first.acked, first.ok_at
         second.filling, second.downs = set(first.filling), dict(first.downs)

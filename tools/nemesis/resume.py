@@ -217,6 +217,11 @@ def recall(run: "Run", past: Past) -> None:
         run.catch_up(entry)
     run.emptied = set(run.ledger.destroyed) - (run.gone & past.out)
     text = f"gone on with at {past.ended_ns / 1e9:.2f} s, where the tool had died"
+    if run.words.disks == "lossy":  # what wasn't synced was in the memory of what served them
+        cut, processes = Cut(), sorted(set(range(len(run.names))) - run.emptied)
+        run.cuts.append(("all", cut))
+        run.note("cut", processes=processes, tear=0, **cut._asdict())
+        text += ", and with it the power of its disks"
     run.notes += [f"gone on with at {t:.2f} s" for t in past.resumed] + [text]
     run.show(text)
 
