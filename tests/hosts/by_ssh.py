@@ -174,7 +174,7 @@ class Kills(Case):
         given = self.given((30, "e1", "Reboot"))
         running = self.start("--seconds", 30, "--replay", given, *PATIENT)
         wait_until("the beginning", lambda: self.events("ready"))
-        # A master that is gone isn't made again: all goes without it from then on.
+        # A master that is gone is made again, over which the next start goes.
         for pattern in (r"^ssh .* -M ", rf"^ssh .*{self.room}.* h1 ", r"^sshd: root"):
             before = len(self.events("ended"))
             wait_until(f"what is {pattern}", lambda: those(pattern))

@@ -24,6 +24,7 @@ DEATHS, FIRST, AT_ONCE = (
     int(os.environ.get(f"HOSTS_{it}", n)) for it, n in (("DEATHS", 5), ("FIRST", 0), ("AT_ONCE", 1))
 )
 SECONDS = 8  # for which each run writes
+FEW = ("--writers", 1, "--readers", 0)  # records, which are judged soon
 VICTIMS = ("tool", "guard", "ssh", "sshd", "tool")
 
 
@@ -162,7 +163,7 @@ class Cables(Lab):
         path = self.room / "given.jsonl"
         order = {"t": 1, "what": "order", "key": "processid", "value": "p1"}
         path.write_text(json.dumps(order | {"order": "RebootAndDelete"}) + "\n")
-        running = self.start("--seconds", 6, "--replay", path, "--quiet", *words)
+        running = self.start("--seconds", 6, "--replay", path, "--quiet", *FEW, *words)
         self.addCleanup(self.cable, "up")
         wait_until("the beginning", lambda: running.poll() is not None or self.events("ready"))
         self.cable("down")
@@ -220,7 +221,7 @@ class Death(Lab):
         """For how long anything of it was left at its ends."""
         faults = self.faults(self.dice, SECONDS)
         words = ("--seconds", SECONDS, "--replay", faults, "--hook-timeout", 30, "--quiet")
-        running = self.start(*words, "--writers", 1, "--readers", 0)  # few are judged soon
+        running = self.start(*words, *FEW)
         try:
             return self.died(running)
         finally:
