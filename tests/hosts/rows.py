@@ -15,10 +15,12 @@ import tempfile
 import threading
 import time
 import unittest
+import unittest.mock
 import uuid
+from argparse import Namespace
 from pathlib import Path
 
-from faultyard_hooks import driver
+from faultyard_hooks import cuts, driver
 
 HERE = Path(__file__).resolve().parent
 ROOT = HERE.parent.parent
@@ -314,6 +316,37 @@ class Words(unittest.TestCase):
         pods = driver("pods -n stores:p0,p1")
         self.assertEqual(pods.command, ["kubectl", "-n", "stores"])
         self.assertEqual(pods.reached(1, ["true"])[3:], ["exec", "-i", "p1", "--", "true"])
+
+
+class Mends(unittest.TestCase):
+    def setUp(self):
+        self.room = Path(self.enterContext(tempfile.TemporaryDirectory(prefix="hosts-test-")))
+        more = {"DIR": str(self.room), "HOSTS": ["h0", "h1", "h2"]}
+        self.enterContext(unittest.mock.patch.multiple(cuts, **more))
+
+    def mended(self, ask):
+        """Mends three hosts that don't hear process 1."""
+        for n in range(3):
+            self.room.joinpath(f".cut{n}").write_text("1")
+        cuts.Cuts(Namespace(ask=lambda n, *_: ask(n)), str).mend()
+
+    def test_a_host_that_hangs_keeps_none_of_the_others_waiting(self):
+        others = threading.Barrier(3)  # the last that comes lets all go on
+        self.mended(lambda n: others.wait(SECONDS))
+        self.assertFalse(others.broken)
+        self.assertEqual(self.unheard(), ["", "", ""])
+
+    def test_a_host_that_says_no_is_asked_again_and_the_others_are_mended(self):
+        def ask(n):
+            if n == 1:
+                raise OSError("h1 can't be reached")
+
+        with self.assertRaises(OSError):
+            self.mended(ask)
+        self.assertEqual(self.unheard(), ["", "1", ""])
+
+    def unheard(self):
+        return [self.room.joinpath(f".cut{n}").read_text() for n in range(3)]
 
 
 class Refusals(Case):

@@ -52,7 +52,7 @@ class Troubles(Case):
 
     def test_a_host_comes_back_with_another_key(self):
         """Nothing is done there from then on: the run ends, and says why and who may run."""
-        running = self.ready((4, "e1", "RebootAndDelete"), seconds=60, limit=("--hook-timeout", 10))
+        running = self.ready((4, "e1", "RebootAndDelete"), seconds=60, limit=("--hook-timeout", 5))
         known = (LAB / "known_hosts").read_text()
         self.addCleanup((LAB / "known_hosts").write_text, known)
         keys = dict(line.split(" ", 1) for line in known.splitlines())
