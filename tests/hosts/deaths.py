@@ -31,7 +31,7 @@ VICTIMS = ("tool", "guard", "ssh", "sshd", "tool")
 def wait_until(what, holds):
     """Waits for as long as that takes; the suite's own limit ends it."""
     while not holds():
-        time.sleep(0.02)
+        time.sleep(0.2)  # a look at all processes, or at tables of hosts, takes its time
 
 
 def three(which):
@@ -127,7 +127,10 @@ class Cuts(Lab):
         path.write_text(json.dumps(order) + "\n")
         running = self.start("--seconds", seconds + 5, "--replay", path, *self.PATIENT)
         wait_until("the cut", lambda: running.poll() is not None or len(tables(self.hosts)) == 3)
-        wait_until("all of it", lambda: not hears("h0", "h1") and not hears("h2", "h0"))
+        self.assertIsNone(running.poll(), "it ended before it was seen to cut")
+        for pair in (("h0", "h1"), ("h2", "h0")):
+            wait_until("all of it", lambda it=pair: running.poll() is not None or not hears(*it))
+        self.assertIsNone(running.poll(), "it ended before it was seen to cut")
         self.assertTrue(hears("h1", "h2"))
         return running
 

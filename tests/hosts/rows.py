@@ -319,34 +319,25 @@ class Words(unittest.TestCase):
 
 
 class Mends(unittest.TestCase):
-    def setUp(self):
-        self.room = Path(self.enterContext(tempfile.TemporaryDirectory(prefix="hosts-test-")))
-        more = {"DIR": str(self.room), "HOSTS": ["h0", "h1", "h2"]}
-        self.enterContext(unittest.mock.patch.multiple(cuts, **more))
-
-    def mended(self, ask):
-        """Mends three hosts that don't hear process 1."""
-        for n in range(3):
-            self.room.joinpath(f".cut{n}").write_text("1")
-        cuts.Cuts(Namespace(ask=lambda n, *_: ask(n)), str).mend()
-
     def test_a_host_that_hangs_keeps_none_of_the_others_waiting(self):
+        """One that says no is asked again, and the others are mended."""
+        room = Path(self.enterContext(tempfile.TemporaryDirectory(prefix="hosts-test-")))
+        more = {"DIR": str(room), "HOSTS": ["h0", "h1", "h2"]}
+        self.enterContext(unittest.mock.patch.multiple(cuts, **more))
         others = threading.Barrier(3)  # the last that comes lets all go on
-        self.mended(lambda n: others.wait(SECONDS))
-        self.assertFalse(others.broken)
-        self.assertEqual(self.unheard(), ["", "", ""])
 
-    def test_a_host_that_says_no_is_asked_again_and_the_others_are_mended(self):
-        def ask(n):
+        def ask(n, *_):
+            others.wait(SECONDS)
             if n == 1:
                 raise OSError("h1 can't be reached")
 
+        for n in range(3):
+            room.joinpath(f".cut{n}").write_text(f"{(n + 1) % 3}")
         with self.assertRaises(OSError):
-            self.mended(ask)
-        self.assertEqual(self.unheard(), ["", "1", ""])
-
-    def unheard(self):
-        return [self.room.joinpath(f".cut{n}").read_text() for n in range(3)]
+            cuts.Cuts(Namespace(ask=ask), str).mend()
+        self.assertFalse(others.broken)
+        unheard = [room.joinpath(f".cut{n}").read_text() for n in range(3)]
+        self.assertEqual(unheard, ["", "2", ""])
 
 
 class Refusals(Case):

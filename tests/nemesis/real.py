@@ -478,7 +478,6 @@ class Resumed(resumed.Dying):
         done = [(order["by"], order["targets"], order["does"]) for order in it.orders()]
         wanted = [(1, [0], "Reboot"), (2, [1], "RebootAndDelete"), (1, [2], "Reboot")]
         self.assertEqual(done, wanted)
-        self.assertIn("join 1", second.calls)
         self.assertEqual([event["process"] for event in it.events("heal")], [1])
         self.assertEqual(len(it.audit()), others.answer(door, {"from": 0})["to"])
         self.assertIn(f"audit legal {len(it.audit())}", it.told)
