@@ -13,10 +13,11 @@ from pathlib import Path
 from unittest.mock import patch
 
 import clock
-from faultyard.enums import Kind
+from faultyard.enums import Key, Kind
 from faultyard.history import History, Operation
+from faultyard.plans import Order
 from faultyard.verdicts import Judged, Linear
-from nemesis import HOOK, Fault, checks, summary
+from nemesis import HOOK, Fault, checks, resume, summary
 from nemesis.clients import Clients
 from nemesis.crashes import Crashes
 from nemesis.elsewhere import Elsewhere
@@ -344,6 +345,49 @@ class Events(unittest.TestCase):
             events = Path(folder, "events.jsonl")
             events.write_text("".join(f'{{"entry":{it}}}\n' for it in (0, 2, 1, 2, 3)))
             self.assertEqual([json.loads(it)["entry"] for it in rising(events)], [0, 2, 3])
+
+
+class Left(unittest.TestCase):
+    """Which orders are still to be done by a run that died: what was due needn't be done."""
+
+    CUTS = ((0, 1), (1, 0))
+    PLANNED = [
+        (1.0, Order(Kind.REBOOT, Key.PROCESS, "p0")),
+        (2.0, Order(Kind.REBOOT, Key.PROCESS, "p1")),
+        (2.0, Order(Kind.CLOG, Key.PROCESS, "one", clogged=3, cuts=CUTS)),
+        (3.0, Order(Kind.REBOOT, Key.PROCESS, "p0")),
+        (4.0, Order(Kind.CLOG, Key.PROCESS, "p0", frees=True)),
+        (5.0, Order(Kind.REBOOT, Key.PROCESS, "p2")),
+    ]
+
+    def ordered(self, who, by=1):
+        base = {"t": 9.0, "what": "order", "by": by, "key": "processid"}
+        return base | {"order": "Reboot", "value": who}
+
+    def left(self, *events):
+        return resume.left_of(self.PLANNED, events, 1)
+
+    def test_what_no_event_tells_of_is_left(self):
+        parted = {"t": 9.0, "what": "partition", "shape": "one", "cuts": [[0, 1], [1, 0]]}
+        freed = {"key": "processid", "value": "p0"}
+        told = [
+            self.ordered("p0"),
+            self.ordered("p1"),
+            parted,
+            self.ordered("p0"),
+            {"t": 9.0, "what": "unclog", "by": 1, "act": {"unclog": freed}, "ordered": True},
+            self.ordered("p2"),
+        ]
+        for count in range(len(told) + 1):
+            self.assertEqual(self.left(*told[:count]), self.PLANNED[count:])
+        its = {"t": 9.0, "what": "unclog", "by": 1, "act": {"unclog": freed}}
+        self.assertEqual(self.left(told[0], its, self.ordered("p9", by=2)), self.PLANNED[1:])
+
+    def test_one_that_was_passed_over_is_not_left(self):
+        self.assertEqual(self.left(self.ordered("p1")), self.PLANNED[2:])
+
+    def test_where_others_order_too_the_events_do_not_tell(self):
+        self.assertIsNone(self.left(self.ordered("p0"), self.ordered("p9")))
 
 
 class Clock(unittest.TestCase):

@@ -2,7 +2,7 @@
 import fcntl
 import json
 import os
-from collections.abc import Iterator, Mapping, Sequence
+from collections.abc import Iterable, Iterator, Mapping, Sequence
 from contextlib import suppress
 from dataclasses import dataclass
 from pathlib import Path
@@ -11,6 +11,7 @@ from typing import TYPE_CHECKING, Any, NamedTuple
 from faultyard import Kind
 from faultyard.history import whole_lines
 from faultyard.ledger import Heal, Ledger, Loss, Record
+from faultyard.plans import Order
 from faultyard.replies import Entry, read_entry
 
 from . import USAGE, Fault
@@ -18,6 +19,7 @@ from .attach import ready
 from .clients import number_of
 from .crashes import Crashes
 from .disks import Cut
+from .orders import Timed
 
 if TYPE_CHECKING:
     from .run import Run
@@ -200,6 +202,41 @@ class Past:
         for event in steps:
             step(ledger, event)
         ledger.go_on(self.ended_ns, sent, self.mark)
+
+
+def left_of(orders: Sequence[Timed], events: Iterable[Event], by: int) -> list[Timed] | None:
+    """The orders that weren't done yet by an actor; nothing where the events don't tell.
+
+    One that was due may not have been done: the one before it took its time. One that no event
+    tells of, with a later one, was passed over, since its processes were gone.
+    """
+    done, left = [*deeds(events, by)], [*orders]
+    done.reverse()
+    while done and left:
+        if deed_of(left.pop(0)[1]) == done[-1]:
+            done.pop()
+    return None if done else left
+
+
+def deeds(events: Iterable[Event], by: int) -> Iterator[tuple[str, ...]]:
+    """What an actor has ordered, in words."""
+    for event in events:
+        match event["what"]:
+            case "partition":
+                yield event["shape"], str(event["cuts"])
+            case "order" if event["by"] == by:
+                yield event["order"], event["key"], event["value"]
+            case "unclog" if event["by"] == by and event.get("ordered"):
+                target = event["act"]["unclog"]
+                yield "unclog", target["key"], target["value"]
+
+
+def deed_of(order: Order) -> tuple[str, ...]:
+    """An order in the same words."""
+    if order.cuts:
+        return order.value, str([[*it] for it in order.cuts])
+    name = "unclog" if order.frees else order.kind.value
+    return name, order.key.value, order.value
 
 
 def recall(run: "Run", past: Past) -> None:

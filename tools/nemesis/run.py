@@ -21,7 +21,7 @@ from .clients import Clients, Pairs, pairs
 from .evidence import MORE, Case, Course, Disk, Left, unwritten, unwritten_line
 from .machine import Machine
 from .orders import Orders, Timed
-from .resume import Mark, Past, Words, end_what_runs, recall
+from .resume import Mark, Past, Words, end_what_runs, events_of, left_of, recall
 from .store import AGAIN, Store, cancelled
 from .summary import Amount, failures
 from .timeline import lines_of
@@ -169,7 +169,10 @@ class Run(Store):
             late, what = await self._late(orders), "begun"
         else:
             died = self.past.ended_ns / 1e9
-            orders = [(at, order) for at, order in orders if at + self.past.late > died]
+            left = left_of(orders, events_of(self.words.out), self.fault)
+            if left is None:  # others have ordered in its name
+                left = [(at, order) for at, order in orders if at + self.past.late > died]
+            orders = left
             late, what = self.past.late + self.ledger.now() - died, "resumed"
         if self.past:
             what = "resumed"
