@@ -22,6 +22,7 @@ import itertools
 import os
 import shutil
 import signal
+import zlib
 from asyncio.subprocess import PIPE
 from collections.abc import AsyncIterator, Awaitable, Callable, Iterable, Mapping, Sequence
 from contextlib import asynccontextmanager, suppress
@@ -39,6 +40,7 @@ HANGS = 1.0  # seconds after which a client gives up a member that doesn't answe
 KILLED = 128 + signal.SIGTERM  # the status of what a keeper ended
 LIMIT = 1 << 16  # bytes of a line, as asyncio has it for commands
 PORT = 20000  # nobody listens there
+MARK = "mark of a member\n"  # beside a log that has sums
 Pair = tuple[str, str]
 
 
@@ -101,6 +103,21 @@ class Mode:
     def line(self, text: str) -> str:
         """A line as it stands in a log, and back."""
         return text
+
+    def opened(self, text: str) -> str | None:
+        """What a line of a log says; nothing where the store sees that it is bad."""
+        return self.line(text)
+
+    async def begins(self, toy: Toy, call: Call) -> bool:
+        """Whether a member starts on the disk that it has; it may mend that."""
+        return True
+
+    def begun(self, member: Member, is_damaged: bool) -> None:
+        """A member runs, whose disk may be damaged."""
+
+    def everywhere(self) -> bool:
+        """Whether a record is given to all three, though two are enough."""
+        return False
 
     def copies(self) -> bool:
         """Whether `whole` and `join` copy what a member lacks."""
@@ -324,6 +341,70 @@ class Crashes(Mode):
         return self.seconds if number == self.number else None
 
 
+class Alone(Mode):
+    """All three get each record, and each tells what it has itself."""
+
+    def everywhere(self) -> bool:
+        return True
+
+    def tells(self, member: Member, key: str, told: str) -> str:
+        return member.own(key) or "none"
+
+
+class Sums(Mode):
+    """Each line has a sum, and a file beside the log says whose it is. A last line without an end
+    is one that a crash cut off. What else is bad is refused, cut off with all behind it, or filled
+    from the others."""
+
+    def __init__(self, does: str = "refuse") -> None:
+        self.does = does
+
+    def line(self, text: str) -> str:
+        return f"{text} {zlib.crc32(text.encode())}"
+
+    def opened(self, text: str) -> str | None:
+        said, _, _ = text.rpartition(" ")
+        return said if self.line(said) == text else None
+
+    async def begins(self, toy: Toy, call: Call) -> bool:
+        log, mark = toy.log_of(call.number), toy.folder / str(call.number) / "mark"
+        if not call.is_damaged and not mark.exists():
+            mark.write_text(MARK)  # as `join` would, or the first start
+        if call.is_damaged and not (mark.exists() and mark.read_text() == MARK and log.exists()):
+            call.say("the mark or the log is gone")
+            return False
+        lines = log.read_text("utf-8", "replace").split("\n")[:-1] if log.exists() else []
+        bad = [self.opened(line) is None for line in lines]
+        if any(bad) and self.does == "refuse":
+            call.say(f"line {bad.index(True)} of the log has a wrong sum")
+            return False
+        if any(bad) and self.does == "cut":
+            lines = lines[: bad.index(True)]
+            log.write_text("".join(f"{line}\n" for line in lines), "utf-8")
+        if any(bad) and self.does == "fill":
+            others = {n: it for n, it in toy.members.items() if n != call.number}
+            found = {key: it for other in others.values() for key, it in other.all().items()}
+            toy.rewrite(call.number, toy.disk(call.number) | found)
+        return True
+
+
+class Spreads(Mode):
+    """Once a member with a damaged disk runs, the others take over all that it has."""
+
+    def begun(self, member: Member, is_damaged: bool) -> None:
+        for other in member.toy.members.values() if is_damaged else ():
+            other.records.update(member.records)
+            member.toy.rewrite(other.number, other.records)
+
+
+class Leads(Mode):
+    """Once a member with a damaged disk runs, the others throw away what it lacks."""
+
+    def begun(self, member: Member, is_damaged: bool) -> None:
+        for other in member.toy.members.values() if is_damaged else ():
+            other.lose([*other.records.keys() - member.records.keys()])
+
+
 def is_nth(key: str, every: int) -> bool:
     """Whether it is a so-manyth record."""
     return key.startswith("r/") and int(key[2:]) % every == 0
@@ -407,6 +488,11 @@ class Call:
     @property
     def number(self) -> int:
         return self.numbers[0]
+
+    @property
+    def is_damaged(self) -> bool:
+        """Whether the disk of the member is."""
+        return str(self.number) in self.env["FY_DAMAGED"].split()
 
     @property
     def able(self) -> list[int]:
@@ -535,8 +621,9 @@ class Toy(Machine):
         """The records of a log."""
         if not path.exists():
             return {}
-        lines = (self.coded(line).split() for line in path.read_text("utf-8").splitlines())
-        return {key: value for key, value in lines}
+        lines = map(self.opened, path.read_text("utf-8", "replace").split("\n"))
+        found = (line.split() for line in lines if line)
+        return {words[0]: words[1] for words in found if len(words) == 2}
 
     def rewrite(self, number: int, records: Mapping[str, str]) -> None:
         """Has a member's log hold these records, and nothing else."""
@@ -544,10 +631,17 @@ class Toy(Machine):
         self.log_of(number).write_text("".join(f"{line}\n" for line in lines), "utf-8")
 
     def coded(self, text: str) -> str:
-        """A line as it stands in a log, and back."""
+        """A line as it stands in a log."""
         for mode in self.modes:
             text = mode.line(text)
         return text
+
+    def opened(self, text: str) -> str | None:
+        """What a line of a log says, if it isn't bad."""
+        said: str | None = text
+        for mode in reversed(self.modes):
+            said = said and mode.opened(said)
+        return said
 
     def note_outage(self, number: int) -> None:
         """The folder of a member was emptied when it ended last."""
@@ -664,11 +758,16 @@ class Toy(Machine):
     async def start(self, call: Call) -> int:
         number, is_new = call.number, not self.log_of(call.number).exists()
         await asyncio.sleep(self.boots * self.dice.uniform(0.5, 1.0))
+        for mode in self.modes:
+            if not await mode.begins(self, call):
+                return 1
         member = Member(self, number, call.goes_on)
         if is_new and number in self.downs:
             self.filling.add(number)
             self.note_outage(number)
         self.members[number] = member
+        for mode in self.modes:
+            mode.begun(member, call.is_damaged)
         try:
             lives = [it for mode in self.modes if (it := mode.lives(number)) is not None]
             await (asyncio.sleep(min(lives)) if lives else forever())
@@ -701,14 +800,14 @@ class Toy(Machine):
 
     async def stored(self, key: str, value: str) -> bool:
         """Whether a record got all its copies."""
-        count = 0
+        count, is_all = 0, any(mode.everywhere() for mode in self.modes)
         for number in self.dice.sample(range(3), 3):
-            if count < COPIES:
+            if count < COPIES or is_all:
                 with suppress(OSError):
                     await self.put(number, {key: value})
                     count += 1
         await asyncio.sleep(self.dice.uniform(0, self.pace))
-        return count == COPIES
+        return count >= COPIES
 
     async def check(self, call: Call) -> int:
         async for line in call.lines():

@@ -5,7 +5,7 @@ from contextlib import suppress
 
 # How the tool ends.
 NONE_LOST, LOST, USAGE, HOOK, GUARD, TOOL, UNREADABLE, STALE, WRONG, MISSING = range(10)
-NOT_LINEARIZABLE = 10
+NOT_LINEARIZABLE, DAMAGED = 10, 11
 
 
 class Fault(Exception):

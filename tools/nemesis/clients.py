@@ -1,7 +1,7 @@
 """The clients of a store: hooks that run on, which write and read, and what they are told."""
 import asyncio
 from asyncio.subprocess import PIPE, Process
-from collections.abc import Awaitable, Callable
+from collections.abc import Awaitable, Callable, Container, Iterator
 from contextlib import suppress
 from random import Random
 
@@ -36,6 +36,7 @@ class Clients:
         self._acked: list[str] = []
         self.registers: list[str] = []  # keys that are written again and again
         self.base = 0  # the number of the last key that was there before
+        self.apart: Container[int] = ()  # who is asked by `ask_for` alone
         self.marked: Callable[[int], None] = lambda mark: None  # is told the largest mark
 
     def begin_registers(self, count: int) -> None:
@@ -130,7 +131,7 @@ class Clients:
 
         async def once(process: Process) -> str | None:
             await asyncio.sleep(READ_PAUSE)
-            up = sorted(self._harness.up)
+            up = sorted(it for it in self._harness.up if it not in self.apart)
             if not up or not self._acked:
                 return "?"
             last = len(self._acked) if dice.random() < 0.5 else min(NEWEST, len(self._acked))
@@ -248,6 +249,29 @@ class Clients:
 
         await self._talk("check", once, lambda: bool(told) or is_over())
         return told[0] if told else None
+
+    async def ask_for(
+        self,
+        number: int,
+        keys: Iterator[str],
+        count: int,
+        hear: Callable[[str, str], None],
+        is_over: Callable[[], bool],
+    ) -> None:
+        """Asks a process for record after record, the first so many at once; not for the
+        history."""
+        asked = 0
+
+        async def once(process: Process) -> str | None:
+            nonlocal asked
+            key, asked = next(keys), asked + 1
+            words, error = await self._ask(process, f"{number} {key}")
+            hear(key, "?" if error else " ".join(words))
+            if asked > count or error or words == ["?"]:
+                await asyncio.sleep(READ_PAUSE)
+            return error
+
+        await self._talk("check", once, is_over)
 
     async def ask_once(self, number: int, key: str) -> Operation:
         """Asks a process for one record, whatever it is."""

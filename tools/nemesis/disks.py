@@ -128,6 +128,10 @@ class Disks(ABC):
     async def _discard(self, number: int) -> None:
         """Takes a disk away, with what is on it, if there is one."""
 
+    async def spoil(self, number: int, file: str, place: int, length: int) -> None:
+        """Has a part of a file be unreadable, on a disk of ours."""
+        raise Fault(TOOL, "a disk of the kernel has no bad sectors")
+
     def remove(self, number: int) -> None:
         """Takes away what the run's folder has of a disk."""
         kept = self.kept(number)
@@ -151,6 +155,9 @@ class Lossy(Disks):
 
     def kept(self, number: int) -> Path:
         return self._out / f"{number}.disk"
+
+    async def spoil(self, number: int, file: str, place: int, length: int) -> None:
+        await done(self._program, "fail", self.folder(number) / file, place, length)
 
     async def _insert(self, number: int) -> None:
         folder, disk = self.folder(number), self.kept(number)

@@ -36,6 +36,8 @@ def refused(words: Namespace, names: Collection[str], granted: Collection[Kind])
             return lack
     if "kill" not in names:
         return None
+    if words.damage:
+        return f"--damage: {away}, where this tool has no disk that it damages"
     if words.disks not in (None, OWN):
         own = "--disks own has it cut" if "power" in names else "there is no hook `power`"
         return (

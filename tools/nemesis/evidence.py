@@ -1,12 +1,14 @@
 """The case of each record that isn't kept: what the program says of it, in words, and what was done
 in the run to those who could hold it."""
-from collections.abc import Callable, Iterable, Mapping, Sequence, Set
+from collections.abc import Callable, Iterable, Iterator, Mapping, Sequence, Set
 from dataclasses import dataclass, field
 from typing import Any
 
 from faultyard.history import PREFIX, Operation
 from faultyard.ledger import Heal, Loss, Record
 from faultyard.verdicts import Verdict
+
+from .observed import Came, Observed
 
 Found = Mapping[str, str | None]  # by key; None where a read that was answered lacks it
 Disk = Mapping[str, str] | None  # what the folder of a process has, if that is known
@@ -72,6 +74,31 @@ class Course:
     left: Left
     is_fresh: bool  # whether the store promises that no answer lags
     lines: Sequence[Mapping[str, Any]] = ()  # of the history
+    damages: Sequence[Observed] = ()  # what was done to disks, and what came of it
+
+    @property
+    def control(self) -> str:
+        """What is said where a disk forgot what it had synced, and its process went on."""
+        for it in self.damages:
+            if it.damage.forgets and it.is_up:
+                name, what = self.names[it.process], it.damage.kind
+                text = f"since entry {it.entry} the disk of {name} had forgotten what it synced"
+                return f"{text} ({what}): a control, by which nobody is blamed"
+        return ""
+
+    def damaged(self, it: Observed) -> str:
+        """A damage in words."""
+        return f"the disk of {self.names[it.process]} was damaged by entry {it.entry}: {it.damage}"
+
+    def right_at_end(self, key: str, value: str) -> str:
+        """How many of the reads at the end told a record as it was written."""
+        told, is_end = [], False
+        for line in self.lines:
+            is_end = is_end or line["f"] == "written"
+            is_read = is_end and (line["f"], line.get("type")) == ("read", "ok")
+            if is_read and line["value"][0] == key:
+                told.append(line["value"][1] == value)
+        return f"at the end {sum(told)} of {len(told)} reads had it right"
 
     def told(self, numbers: Iterable[int]) -> str:
         """The names of processes."""
@@ -108,20 +135,21 @@ class Case:
             case Verdict.LOST:
                 return self._lost()
             case Verdict.MISSING:
-                return self._missing()
+                return (self.course.control or self._missing()) + self._after_damage()
             case Verdict.STALE:
                 return self._stale()
             case Verdict.WRONG:
-                who, told = self.course.who(self.judged["read"]), self.judged["told"]
-                return f"{who} told {told}, and {self.record.value} was written"
+                return self._wrong()
         return f"unknown: no read told it at the end, and {self._unknown()}"
 
     def _lost(self) -> str:
         match self.judged["fault"]:
             case {"beyond": entry}:
                 return self._beyond(entry)
+            case _ if control := self.course.control:
+                return control
             case "store":
-                return self._by_store()
+                return self._by_store() + self._after_damage()
             case {"store_or_whole": heals}:
                 return _too_early(self.course, [(number, entry) for number, entry in heals])
         return self._told_apart()
@@ -140,6 +168,22 @@ class Case:
         none = ", and none has it" if never <= self.lacks.keys() - self.holds.keys() else ""
         text = f"{one}{self.course.told(never)} held it and was never destroyed since{none}"
         return f"{text}: the store lost it"
+
+    def _after_damage(self) -> str:
+        """Which damage may be why: after it a process went on with less than it had."""
+        its = [it for it in self.course.damages if it.came == Came.LACKED]
+        return "".join(f"; {self.course.damaged(it)}, and then it lacked {it.most}" for it in its)
+
+    def _wrong(self) -> str:
+        read = self.judged["read"]
+        who, told = self.course.who(read), self.judged["told"]
+        text = f"{who} told {told}, and {self.record.value} was written"
+        node, its = self.course.lines[read]["node"], self.course.damages
+        here = [it for it in its if it.damage.record == self.key or it.process == node]
+        if not here:
+            return text
+        right = self.course.right_at_end(self.key, self.record.value)
+        return f"{text}; {self.course.damaged(here[0])}; {right}"
 
     def _told_apart(self) -> str:
         """Where some have it, or `read` didn't say."""
@@ -255,6 +299,27 @@ def unwritten_line(read: Operation, is_known: bool, names: Sequence[str]) -> dic
         "t": round(read.ended / 1e9, 3),
         "fault": f"{who} told {read.value}, and {wrote}",
     }
+
+
+def told_alone(
+    course: Course, records: Mapping[str, Record], wrong: Set[str]
+) -> Iterator[dict[str, Any]]:
+    """What a process with a damaged disk told wrongly, and no read of the history did, as lines of
+    records.jsonl."""
+    for it in course.damages:
+        for key in sorted(it.wrong.keys() - wrong):
+            value, name = records[key].value, course.names[it.process]
+            right = course.right_at_end(key, value)
+            text = f"{name} alone told {it.wrong[key]}, and {value} was written"
+            yield {
+                "key": key,
+                "verdict": "damaged",
+                "value": value,
+                "told": it.wrong[key],
+                "process": name,
+                "t": it.t,
+                "fault": f"{text}; {course.damaged(it)}; {right}",
+            }
 
 
 def told_cases(lines: Sequence[Mapping[str, Any]], shown: int) -> list[str]:

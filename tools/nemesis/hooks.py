@@ -4,7 +4,7 @@ import os
 import shutil
 from argparse import Namespace
 from asyncio.subprocess import PIPE, Process
-from collections.abc import AsyncIterator, Callable, Sequence
+from collections.abc import AsyncIterator, Callable, Collection, Sequence
 from contextlib import asynccontextmanager, suppress
 from pathlib import Path
 from typing import Any, NamedTuple
@@ -20,7 +20,7 @@ from .places import Place
 
 NEEDED = {"start", "whole", "write", "read"}
 KNOWN = NEEDED | {"hooks", "setup", "ready", "join", "leave", "elect", "pause", "resume"}
-KNOWN |= {"check", "get", "salvage"}
+KNOWN |= {"check", "get", "salvage", "files"}
 # These act where the tool can't.
 KNOWN |= {"kill", "empty", "fetch", "power", "cut", "mend", "name"}
 # These are no hooks, but promises: no answer of check lags; records stand in files as written.
@@ -60,6 +60,7 @@ class Hooks:
         self.asked: dict[int | str, str] = {}  # the call that goes on of each, which may hang
         self._path, self._ledger, self._machine = words.hooks, ledger, machine
         self.before: Callable[[int], list[str]] = lambda number: []  # the words of start
+        self.damaged: Collection[int] = ()  # whose disks are
         self.limit: float = words.hook_timeout
         self._is_attached = words.attach is not None
         self._zones = [place[Key.ZONE] for place in file.places]
@@ -170,7 +171,8 @@ class Hooks:
         return await self.call(name, *numbers) is not None
 
     def _variables(self, *numbers: int) -> dict[str, str]:
-        env = self._env | {"FY_ABLE": " ".join(map(str, sorted(self._ledger.able)))}
+        able, damaged = (" ".join(map(str, sorted(it))) for it in (self._ledger.able, self.damaged))
+        env = self._env | {"FY_ABLE": able, "FY_DAMAGED": damaged}
         return env | {"FY_ZONE": self._zones[numbers[0]]} if numbers else env
 
 

@@ -26,6 +26,7 @@ from . import GUARD, NONE_LOST, TOOL, USAGE, Fault, say, summary
 from . import __doc__ as about
 from .edn import Convert
 from .evidence import told_cases
+from .damage import kinds_of
 from .disks import KINDS as KINDS_OF_DISKS
 from .elsewhere import listed
 from .machine import Machine
@@ -40,6 +41,7 @@ from .summary import MILD, besides, closing, tested_little
 # The words that only some plans draw by.
 DRAWN = {"kinds": ("mixed", "attrition", "swizzle"), "pauses": ("mixed", "blackout", "partition")}
 LEAST = {"seed": 0, "seconds": 0, "writers": 1, "readers": 0, "registers": 0, "hook_timeout": 0.1}
+LEAST |= {"damage_seconds": 0}
 SHOWN = 5  # cases that are told on the terminal; records.jsonl has all
 
 
@@ -86,6 +88,13 @@ def parsed(given: Sequence[str] | None = None) -> argparse.Namespace:
     text = "what a power cut keeps of what was unsynced: nothing, or what is drawn (draw)"
     add("--tear", choices=("none", "draw"), default="draw", help=text)
     add("--deaf-disks", action="store_true", help="syncs do nothing: a control that has to lose")
+    text = "what RebootAndDelete does to disks: bits, zeros, swap, misdirect, missing, error, "
+    text += "truncate, rollback; or noticed, the first five. Each is emptied later"
+    add("--damage", type=kinds_of, metavar="KINDS", help=text)
+    text = "how long a process with a damaged disk is asked for all, until it is emptied (10)"
+    add("--damage-seconds", type=float, default=10.0, metavar="SECONDS", help=text)
+    text = "no other is elected where the disk of a primary is damaged"
+    add("--damaged-primary", action="store_true", help=text)
     text = "a host for each process, FY_HOSTS, whose cable a Clog pulls"
     add("--net", action="store_true", help=text)
     text = "what a Clog loses with --net: what the process sends, what it gets, or both (both)"
@@ -132,6 +141,8 @@ def parsed(given: Sequence[str] | None = None) -> argparse.Namespace:
             it.error(f"--{name.replace('_', '-')} has to be {least} or more")
     if words.deaf_disks and not words.disks:
         it.error("--deaf-disks needs --disks")
+    if why := undamaged(words):
+        it.error(why)
     if words.plan == "partition" and not words.net:
         it.error("--plan partition needs --net")
     if words.clog != "both" and not words.net:
@@ -155,6 +166,20 @@ def parsed(given: Sequence[str] | None = None) -> argparse.Namespace:
         it.error(idle)
     words.hooks, words.parts = words.hooks.resolve(), False
     return words
+
+
+def undamaged(words: argparse.Namespace) -> str | None:
+    """Why disks can't be damaged as the words say, if they can't."""
+    if not words.damage:
+        is_more = words.damaged_primary or words.damage_seconds != 10.0
+        return "--damage-seconds and --damaged-primary need --damage" if is_more else None
+    if "error" in words.damage and words.disks != "lossy":
+        return "--damage error needs --disks lossy, whose reads fail where it says"
+    if words.deaf_disks:
+        return "--damage isn't for --deaf-disks, which forget by themselves"
+    if words.check_hooks:
+        return "--check-hooks damages no disk: --damage has no effect"
+    return None
 
 
 def with_those_of_a_run(parser: argparse.ArgumentParser, given: Sequence[str] | None) -> list[str]:
@@ -247,6 +272,7 @@ async def chaos(words: argparse.Namespace, machine: Machine) -> int:
             await run.elsewhere.cleared(len(run.names))
         for process in range(len(run.names)):
             shutil.rmtree(words.out / str(process), ignore_errors=True)
+            run.damages.forget_copies(process)
             if run.disks:
                 run.disks.remove(process)
     return status
@@ -357,7 +383,7 @@ def report(run: Run, is_read: bool = True) -> int:
     words, judged, checked = run.words, run.judged, write_files(run)
     title = f"seed {words.seed}"
     title += f", {run.partitions} partitions" if run.partitions else ""
-    lines = run.summary(title) + run.notes + run.power() + after_cuts(run)
+    lines = run.summary(title) + run.damages.summed() + run.notes + run.power() + after_cuts(run)
     lines += run.ended_by_themselves()
     if is_read and not words.check_hooks:
         lines += tested_little(run.amount(), is_control=words.unguarded and judged["lost"] > 0)
@@ -374,4 +400,5 @@ def report(run: Run, is_read: bool = True) -> int:
     say("\n".join(lines))
     if checked != f"legal {run.guard.journal_len()}":
         return GUARD
-    return summary.status(judged, run.linear, "fresh" in run.hooks.names, run.is_unread)
+    is_fresh, alone = "fresh" in run.hooks.names, len(run.told_alone)
+    return summary.status(judged, run.linear, is_fresh, run.is_unread, alone)

@@ -9,6 +9,7 @@ from faultyard.harness import read_orders
 from faultyard.plans import Draw, Order, Simulated, shared_place
 
 from . import USAGE, Fault
+from .damage import words_of
 from .disks import tears_of
 
 FIRST = 1.0  # seconds before the first order
@@ -24,6 +25,8 @@ class Orders:
         self.words, self.file, self.fault = words, file, fault
         self.granted = file.actors[fault].kinds
         self.timed, self.whose = self._planned()
+        if words.damage and not words.replay:
+            self.timed = [*self._damaging(self.timed)]
 
     def _planned(self) -> tuple[list[Timed], str]:
         words = self.words
@@ -64,6 +67,13 @@ class Orders:
             timed = [(at, order._replace(tear=0)) for at, order in timed]
         whose = f"faultyard simulate --plan {words.plan} --seed {words.seed}"
         return timed, f"those of actor {self.fault} in {whose}"
+
+    def _damaging(self, timed: list[Timed]) -> Iterator[Timed]:
+        """Each order that destroys has a word which says what it damages, in place of a tear."""
+        drawn = words_of(self.words.seed)
+        for at, order in timed:
+            destroys = order.kind.empties_disk
+            yield at, order._replace(tear=next(drawn)) if destroys else order
 
     def _diced(self) -> Iterator[Timed]:
         """Orders that are drawn here."""

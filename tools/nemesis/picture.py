@@ -16,7 +16,8 @@ LEFT, RIGHT, LETTER = 150, 24, 6.3  # of the plot, and of a letter
 CHART = 84  # how high the curve of the writes is
 MOST_LETTERS = 205  # of a line below
 LISTED = 12  # orders that are explained below; a picture is no log
-KINDS = {"stale": "stale"} | dict.fromkeys(("lost", "wrong", "unwritten", "missing"), "lost")
+KINDS = dict.fromkeys(("lost", "wrong", "unwritten", "damaged", "missing"), "lost")
+KINDS |= {"stale": "stale"}
 BOLT = "l-5 9h4l-2 7l7 -9h-4l3 -7z"
 SHORT = {
     Kind.REBOOT_PROCESS: ("P", "Process"),
@@ -95,7 +96,7 @@ class _Picture:
         self.takers = {taken for record in lost for taken in record.taken}
         self.top = 20 + 18 * len(told) + 48  # of the chart
         strips = {record.verdict for record in run.records}
-        order = ("lost", "wrong", "unwritten", "missing", "stale", "unreadable")
+        order = ("lost", "wrong", "unwritten", "damaged", "missing", "stale", "unreadable")
         self.strips = [it for it in order if it in strips]
         self.rows = rows_of(run.partitions)
         rows = len(self.strips) + max(self.rows, default=-1) + 1

@@ -253,6 +253,7 @@ def recall(run: "Run", past: Past) -> None:
     for entry in past.untold(run.guard.audit()):
         run.catch_up(entry)
     run.emptied = set(run.ledger.destroyed) - (run.gone & past.out)
+    run.damages.recall(past.events)
     text = f"gone on with at {past.ended_ns / 1e9:.2f} s, where the tool had died"
     if run.words.disks == "lossy":  # what wasn't synced was in the memory of what served them
         cut, processes = Cut(), sorted(set(range(len(run.names))) - run.emptied)
@@ -287,7 +288,7 @@ def recall_counts(run: "Run", past: Past) -> None:
                 run.partitions += 1
             case "cut":
                 run.cuts.append((value, Cut(event["survived"], event["unsynced"])))
-            case "ended":
+            case "ended" if "damaged" not in event:
                 crashes = run.crashes.setdefault(event["process"], Crashes())
                 crashes.add(event["was_up"], event["status"], event["log"])
             case "guard":

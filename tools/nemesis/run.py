@@ -18,7 +18,7 @@ from . import HOOK, USAGE, Fault
 from .attach import attach, leave, leave_in_haste
 from .checks import HookCheck
 from .clients import Clients, Pairs, pairs
-from .evidence import MORE, Case, Course, Disk, Left, unwritten, unwritten_line
+from .evidence import MORE, Case, Course, Disk, Left, told_alone, unwritten, unwritten_line
 from .machine import Machine
 from .orders import Orders, Timed
 from .resume import Mark, Past, Words, end_what_runs, events_of, left_of, recall
@@ -46,6 +46,7 @@ class Run(Store):
     judged = Judged()  # what became of each acknowledged record
     linear = Linear()  # what became of registers
     cases: list[dict[str, Any]] = []  # the evidence of each that isn't kept, as in records.jsonl
+    told_alone: list[dict[str, Any]] = []  # of them what a process with a damaged disk told alone
     is_unread = False  # whether `read` hung, so that only disks and `check` can say what is left
 
     def __init__(
@@ -61,6 +62,8 @@ class Run(Store):
         self.history: History = History(path, self.ledger, goes_on=past is not None)
         self.clients = Clients(self.hooks, self, self.history)
         self.clients.marked = Mark(words.out).keep
+        self.clients.apart = self.damages.now
+        self.damages.clients = self.clients
         if not words.resume:
             Words(words.given, words.cwd, words.port).keep(words.out)
         self.check = HookCheck(self)
@@ -144,6 +147,8 @@ class Run(Store):
             work += [self.clients.get(it) for it in more]
         if words.guard:
             work.append(self.follow())
+        if "rollback" in (words.damage or ()):
+            work.append(self.damages.keep_copies())
         behind = [self.tasks.create_task(it) for it in work]
         if words.check_hooks:
             self.notes += await self.check.whole()
@@ -162,6 +167,7 @@ class Run(Store):
         self.note("written")
         self.history.written()
         await self.clogs_ended(at_once=True)
+        await self.damages.over()
 
     async def _left_of(self, orders: list[Timed]) -> tuple[list[Timed], float]:
         """The orders that are still to be done, and how many seconds later than planned."""
@@ -330,7 +336,8 @@ class Run(Store):
         writes, records, names = self.history.writes, self.ledger.records, self.names
         is_fresh, lines = "fresh" in self.hooks.names, lines_of(self.words.out / "history.jsonl")
         losses, heals = self.ledger.losses, self.ledger.heals
-        course = Course(names, self.orders, losses, heals, left, is_fresh, [*lines])
+        past = self.damages.past
+        course = Course(names, self.orders, losses, heals, left, is_fresh, [*lines], past)
 
         def record(it: Mapping[str, Any]) -> Record:  # a register that was written once is one too
             known = Record(it["value"], round(it["at"] / 1e9, 3), it["entry"], ())
@@ -341,4 +348,6 @@ class Run(Store):
         )
         others = unwritten(records.keys(), writes, self.history.reads)
         told = [unwritten_line(it, it.key in writes, names) for it in others]
-        return [case.line() for case in cases] + told
+        wrong = {it["key"] for it in self.judged.lines if it["verdict"] == Verdict.WRONG}
+        self.told_alone = [*told_alone(course, records, wrong)]
+        return [case.line() for case in cases] + told + self.told_alone

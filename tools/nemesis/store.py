@@ -8,7 +8,7 @@ import sys
 import tempfile
 from argparse import Namespace
 from asyncio.subprocess import DEVNULL, Process
-from collections.abc import AsyncIterator, Sequence
+from collections.abc import AsyncIterator, Collection, Sequence
 from contextlib import asynccontextmanager, suppress
 from pathlib import Path
 from typing import Any, cast
@@ -20,11 +20,13 @@ from faultyard.plans import Order
 from . import HOOK, USAGE, Fault, alone, clock, clock_ns, say
 from .alone import OWN
 from .crashes import Crashes, end_of_log, in_words
+from .damage import Damage
 from .disks import Cut, disks_of
 from .elsewhere import Elsewhere, Life, Partitions, refused
 from .hooks import End, Hooks
 from .machine import Machine
 from .net import Net
+from .observed import Damages
 from .places import PORTS, Place, addresses, in_a_row, reached
 
 DEAF = Path(__file__).with_name("deaf.py")
@@ -54,6 +56,7 @@ class Store(Harness):
         self.hooks = Hooks(words, file, self.ledger, machine, self._places())
         self.hooks.before = self._before
         self.elsewhere = Elsewhere(self.hooks)
+        self.damages = Damages(self)
         self._keeping: dict[int, asyncio.Task[None]] = {}  # each brings a process back
         self._started: dict[int, Process] = {}
         self._began: dict[int, float] = {}  # when each was started last
@@ -175,10 +178,15 @@ class Store(Harness):
 
     async def strike(self, processes: Sequence[int], kind: Kind) -> None:
         is_cut = self.words.disks is not None and kind is Kind.REBOOT
-        await self._take_down(processes, kind.empties_disk, is_cut)
+        damaged = self.damages.awaits(processes) if kind is Kind.REBOOT_AND_DELETE else ()
+        await self._take_down(processes, kind.empties_disk, is_cut, damaged)
 
     async def _take_down(
-        self, processes: Sequence[int], emptied: bool, is_cut: bool = False
+        self,
+        processes: Sequence[int],
+        emptied: bool,
+        is_cut: bool = False,
+        damaged: Collection[int] = (),
     ) -> None:
         """Ends them all at once, with the hooks that work for them, to be brought back."""
         if is_cut and self.disks:
@@ -193,7 +201,10 @@ class Store(Harness):
             self.hooks.ends.pop(number, None)
             self.joined.pop(number, None)
             self.not_whole.pop(number, None)
-            if emptied:
+            is_over = self.damages.conclude(number)  # who was damaged before is emptied now
+            if number in damaged and await self.damages.strike(number):
+                continue
+            if emptied or is_over:
                 await self._empty(number)
         # Nobody waits from here until the losses are told, or one that is empty would join before
         # an election, perhaps as the primary that it was.
@@ -217,16 +228,31 @@ class Store(Harness):
         """Stops them before any ends, since a power cut leaves nobody the time for one more
         sync."""
         for number in processes:
-            process = self._started.get(number)
-            if process and process.returncode is None:
-                self._machine.signal_below(process.pid, signal.SIGSTOP)
+            self.signal(number, signal.SIGSTOP)
+
+    def signal(self, number: int, sent: int) -> None:
+        """Sends a signal to all that a process runs."""
+        process = self._started.get(number)
+        if process and process.returncode is None:
+            self._machine.signal_below(process.pid, sent)
+
+    async def copied(self, number: int, to: Path) -> None:
+        """Copies the folder of a process."""
+        await self._machine.output("cp", "-a", self.words.out / str(number), to)
+
+    async def spoil(self, number: int, damage: Damage) -> None:
+        """Has a part of a file be unreadable."""
+        assert self.disks and damage.offset is not None and damage.length
+        await self.disks.spoil(number, damage.file, damage.offset, damage.length)
 
     async def _cut(self, processes: Sequence[int]) -> None:
         """Cuts the power of their disks: what the order's tear doesn't keep is lost."""
         assert self.order
-        found = await self.disks.cut(processes, self.order.tear) if self.disks else Cut()
+        # With --damage the word of an order that destroys is no tear.
+        tear = self.order.tear if not self.words.damage or self.words.tear == "draw" else 0
+        found = await self.disks.cut(processes, tear) if self.disks else Cut()
         self.cuts.append((self.order.value, found))
-        self.note("cut", processes=list(processes), tear=self.order.tear, **found._asdict())
+        self.note("cut", processes=list(processes), tear=tear, **found._asdict())
         self.show(f"power cut of {self.order.value}: {found}")
 
     def power(self) -> list[str]:
@@ -240,6 +266,7 @@ class Store(Harness):
 
     async def _empty(self, number: int) -> None:
         self.emptied.add(number)
+        self.damages.forget_copies(number)
         if self.disks:
             await self.disks.replace(number)
         else:
@@ -300,22 +327,42 @@ class Store(Harness):
 
     async def _keep(self, number: int) -> None:
         """Brings a process back, and again each time that it ends by itself."""
-        if number in self.emptied:
-            await self._join(number)
-        while number not in self.gone:
-            with (self.words.out / f"{self.names[number]}.log").open("ab") as log:
-                begin, files = log.tell(), {"stdin": DEVNULL, "stdout": log, "stderr": log}
-                self._began[number] = clock()
-                async with self._running(number, files) as process:
-                    self._started[number] = process
-                    life = Life(self.elsewhere, number)
-                    while await life.goes_on(process.returncode, number in self.up):
-                        await self._ask_after(number, process)
-                        self._may_stay(number, process)
-                        await asyncio.sleep(AGAIN)
-            assert process.returncode is not None  # or it would go on
-            self._end_by_itself(number, process.returncode, begin)
-            await asyncio.sleep(self.crashes[number].pause())
+        while number in self.emptied or number not in self.gone:
+            if number in self.emptied:
+                await self._join(number)
+            elif self.damages.is_over(number):
+                await self._give_up(number)
+            elif number in self.damages.now and not self._is_elected():
+                await asyncio.sleep(AGAIN)  # it may be emptied then, as the primary that it was
+            else:
+                await self._run(number)
+
+    async def _run(self, number: int) -> None:
+        """Runs a process until it ends by itself, or was observed with a damaged disk."""
+        with (self.words.out / f"{self.names[number]}.log").open("ab") as log:
+            begin, files = log.tell(), {"stdin": DEVNULL, "stdout": log, "stderr": log}
+            self._began[number] = clock()
+            self.damages.started(number)
+            async with self._running(number, files) as process:
+                self._started[number] = process
+                life = Life(self.elsewhere, number)
+                while await life.goes_on(process.returncode, number in self.up):
+                    if self.damages.is_over(number):
+                        return
+                    await self._ask_after(number, process)
+                    self._may_stay(number, process)
+                    await asyncio.sleep(AGAIN)
+        assert process.returncode is not None  # or it would go on
+        self._end_by_itself(number, process.returncode, begin)
+        await asyncio.sleep(self.crashes[number].pause())
+
+    async def _give_up(self, number: int) -> None:
+        """Empties a process whose disk was damaged, so that it joins as a new one."""
+        self.damages.conclude(number)
+        self.emptied.add(number)  # at once: a strike may cancel what follows
+        if number in self.up:
+            self.tell_ended(number, "restart")
+        await self._empty(number)
 
     @asynccontextmanager
     async def _running(self, number: int, files: dict[str, Any]) -> AsyncIterator[Process]:
@@ -340,9 +387,11 @@ class Store(Harness):
         log = end_of_log(self.words.out / f"{name}.log", begin)
         self._ended[number] = f"; its last process ended with status {in_words(status)}"
         self.hooks.ends.setdefault(number, End(f"start {number}", status))
-        self.note("ended", process=number, status=status, was_up=is_up, log=log)
+        is_damaged = self.damages.ended(number, log)
+        more = {"damaged": True} if is_damaged else {}
+        self.note("ended", process=number, status=status, was_up=is_up, log=log, **more)
         crashes = self.crashes.setdefault(number, Crashes())
-        if crashes.add(is_up, status, log) <= CRASHES_SHOWN:
+        if not is_damaged and crashes.add(is_up, status, log) <= CRASHES_SHOWN:
             when = "" if is_up else " before it was up"
             self.show(f"{name} ended by itself{when}, {crashes.last}")
         if is_up:
@@ -387,6 +436,9 @@ class Store(Harness):
                 self._ended.pop(number, None)
                 self.starts.append(clock() - self._began[number])
                 self.tell_up(number)
+                self.damages.is_up(number)
+        elif number in self.damages.now:
+            await self.damages.ask(number, process)
         elif number in self.ledger.destroyed and self._is_elected():
             now = self.ledger.now()
             whole = await self.hooks.says("whole", number, self.ledger.due(number))
@@ -404,17 +456,22 @@ class Store(Harness):
 
     def ended_by_themselves(self) -> list[str]:
         """Who ended by itself, and how often."""
-        return [f"{self.names[number]} {it}" for number, it in sorted(self.crashes.items())]
+        its = {number: it for number, it in self.crashes.items() if it.last}
+        return [f"{self.names[number]} {it}" for number, it in sorted(its.items())]
 
     def _is_elected(self) -> bool:
         """Whether no election is due."""
-        return self._elected == len(self.ledger.losses)
+        return self._elected == self._losses()
+
+    def _losses(self) -> int:
+        """How many losses an election has to see."""
+        return len(self.ledger.losses) - self.damages.spared()
 
     async def _elect(self) -> None:
         """After each destruction a hook may choose a primary, before any joins or is healed."""
         while True:
             await asyncio.sleep(AGAIN)
-            seen = len(self.ledger.losses)
+            seen = self._losses()
             if not self._is_elected() and (text := await self.hooks.call("elect")) is not None:
                 for line in text.splitlines():
                     await self._elect_says(line)

@@ -4,7 +4,7 @@ from dataclasses import dataclass, field
 
 from faultyard.verdicts import Judged, Linear, Verdict
 
-from . import HOOK, LOST, MISSING, NONE_LOST, NOT_LINEARIZABLE, STALE, UNREADABLE, WRONG
+from . import DAMAGED, HOOK, LOST, MISSING, NONE_LOST, NOT_LINEARIZABLE, STALE, UNREADABLE, WRONG
 
 FEW = 100  # acknowledged writes: with fewer a run says little
 MILD = "tested little: unguarded, and nothing was lost: --plan attrition destroys more"
@@ -83,16 +83,20 @@ def told_keys(linear: Linear, shown: int) -> list[str]:
     return [f"{text}: {some}, in linear.jsonl" if linear.lines else text]
 
 
-def status(judged: Judged, linear: Linear, is_fresh: bool, is_unread: bool) -> int:
+def status(
+    judged: Judged, linear: Linear, is_fresh: bool, is_unread: bool, told_alone: int = 0
+) -> int:
     """How the tool ends after a run that went on to its end.
 
     `is_fresh`: the store promises that no answer lags. `is_unread`: the hook `read` hung.
+    `told_alone`: so many values a process with a damaged disk told wrongly, and no other.
     """
     findings = (
         (judged["lost"], LOST),
         (judged["wrong"] + judged["unwritten"], WRONG),
         (judged["missing"], MISSING),
         (linear.keys, NOT_LINEARIZABLE),
+        (told_alone, DAMAGED),
         (judged["unreadable"], HOOK if is_unread else UNREADABLE),
         (is_fresh and judged["stale"], STALE),
     )

@@ -133,6 +133,10 @@ class Ledger:
         self.destroyed[process] = loss
         self.able.discard(process)
 
+    def destroy_again(self, process: int) -> None:
+        """What a destroyed process got since then is gone too."""
+        self.destroyed[process] = self.destroyed[process]._replace(sent=self._sent)
+
     def due(self, process: int) -> int:
         """The mark up to which a destroyed process needs all records again."""
         self._late = max(self._late, self.destroyed[process].sent)

@@ -30,7 +30,7 @@ Answer = TypeVar("Answer")
 MORE = {"?": "?"}  # among what `salvage` returns: there may be more, which it couldn't read
 _user: Dict[str, Any] = {}  # as whom commands run, if not as who runs the hook
 HOOKS = "setup start ready join leave elect pause resume whole write check get read salvage".split()
-HOOKS += "kill empty fetch power cut mend name".split()
+HOOKS += "kill empty fetch power cut mend name files".split()
 # What stands in a module of its own.
 ELSEWHERE = {
     "Amqp": "amqp",
@@ -93,6 +93,7 @@ HOSTS = ["127.0.0.1"] * COUNT
 if sys.argv[1:2] not in (["setup"], ["salvage"]):  # which run processes beside the tool
     HOSTS = _told("FY_HOSTS", "").split() or HOSTS
 ABLE = [int(number) for number in _told("FY_ABLE", "").split()]
+DAMAGED = [int(number) for number in _told("FY_DAMAGED", "").split()]
 RESUMED = _told("FY_RESUMED") == "1"  # the run had died, and is gone on with
 
 
