@@ -7,6 +7,7 @@ import functools
 import http.client
 import json
 import os
+import random
 import shutil
 import signal
 import socket
@@ -14,6 +15,7 @@ import subprocess
 import tempfile
 import time
 import unittest
+from contextlib import suppress
 from pathlib import Path
 from typing import Any
 
@@ -40,9 +42,11 @@ def workshop() -> Path:
 
 @functools.cache
 def go_environment() -> dict[str, str]:
-    folder = workshop()
-    cache = os.environ.get("GOCACHE", str(folder / "cache"))
-    return {**os.environ, "GOCACHE": cache, "GOPATH": str(folder / "path"), **GO}
+    """What Go is called with. It keeps what it compiled where `make merged` has it kept too."""
+    own = {"GOPATH": str(workshop() / "path"), **GO}
+    if not {"GOCACHE", "XDG_CACHE_HOME", "HOME"} & set(os.environ):
+        own["GOCACHE"] = str(workshop() / "cache")
+    return {**os.environ, **own}
 
 
 def run(*words: object, **more: Any) -> subprocess.CompletedProcess[str]:
@@ -185,19 +189,32 @@ def checked(config: Path, file: Path) -> tuple[int, str]:
     return ran.returncode, (ran.stdout + ran.stderr).strip()
 
 
-def certificate(folder: Path) -> tuple[str, str]:
-    """The files of a certificate of 127.0.0.1 that nobody has signed, and of its key."""
+@functools.cache
+def certifier() -> Path:
+    """The program of Go's sources that makes certificates."""
     source = run("go", "env", "GOROOT").stdout.strip() + "/src/crypto/tls/generate_cert.go"
-    made = run("go", "run", source, "-host", "127.0.0.1", cwd=folder, env=go_environment())
+    program = workshop() / "generate_cert"
+    made = run("go", "build", "-o", program, source, env=go_environment())
     if made.returncode:
         raise AssertionError(made.stderr)
+    return program
+
+
+def certificate(folder: Path) -> tuple[str, str]:
+    """The files of a certificate of 127.0.0.1 that nobody has signed, and of its key."""
+    words = "-host", "127.0.0.1", "-ecdsa-curve", "P256"
+    run(certifier(), *words, cwd=folder, check=True)
     return str(folder / "cert.pem"), str(folder / "key.pem")
 
 
 def free_port() -> int:
-    with socket.socket() as found:
-        found.bind(("127.0.0.1", 0))
-        return int(found.getsockname()[1])
+    """A port that nobody has, and that the system gives to nobody who connects to another."""
+    given = int(Path("/proc/sys/net/ipv4/ip_local_port_range").read_text().split()[0])
+    while True:
+        port = random.randrange(given // 2, given)
+        with socket.socket() as found, suppress(OSError):
+            found.bind(("", port))
+            return port
 
 
 class Case(unittest.TestCase):
