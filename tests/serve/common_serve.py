@@ -170,7 +170,10 @@ class Talk:
         self.socket.settimeout(PATIENCE)
         self.socket.connect(str(path))
         self.file = self.socket.makefile("rb")
-        assert self.file.readline() == HEADER
+        header = self.file.readline()
+        if not header:
+            raise ConnectionResetError("the server is gone")
+        assert header == HEADER
 
     def ask(self, text: bytes) -> bytes:
         """The answer to a line; nothing where the server is gone."""
