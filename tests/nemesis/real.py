@@ -39,6 +39,7 @@ CPU = 120  # seconds of processor time that each process of a run may take
 SECONDS = 3600  # what hangs takes no processor time: after an hour a test gives up
 POLLS = 5000  # so often is looked again; on a busy machine that takes the longer
 PATIENT = ("--hook-timeout", 200)  # the tool's own limits are of wall time
+FEW = ("--writers", 1, "--readers", 1)  # each takes all the processor time that it gets
 # In memory the store's writes wait for no disk, which others may keep busy.
 MEMORY = "/dev/shm" if os.access("/dev/shm", os.W_OK) else None
 
@@ -163,12 +164,12 @@ class Hooks(Case):
             read) kill -0 "$(cat "$FY_DIR/shared")" || exit 1;;
             whole) echo "looks at $2" >&2;;
             write) echo speaks >&2;;"""
-        told = self.run_tool("--check-hooks", *PATIENT, cases=cases, status=0)
+        told = self.run_tool("--check-hooks", *FEW, *PATIENT, cases=cases, status=0)
         self.assertIn("p2 is back after RebootAndDelete", told)
         self.assertRegex(told, r"\d+ acknowledged: (\d+) kept, 0 lost, .*; audit legal \d+; ")
         self.assertRegex(told, r"\na start took up to \d+\.\d s, a heal up to \d+\.\d s\n")
         lines = [line[7:] for line in (self.out / "hooks.log").read_text().splitlines()]
-        self.assertEqual(lines[:3], ["  write: speaks"] * 3)
+        self.assertEqual(lines[0], "  write: speaks")
         self.assertRegex("\n".join(lines), r"\n  whole 0 \d+: looks at 0\n")
 
     def skeleton(self, which, *orders):
@@ -181,7 +182,7 @@ class Hooks(Case):
         hooks.write_text(skeleton)
         hooks.chmod(0o755)
         self.env["PATH"] = f"{HERE}:{self.env['PATH']}"
-        words = ("--check-hooks", *PATIENT)
+        words = ("--check-hooks", *FEW, *PATIENT)
         told = self.run_tool(*words, cluster=cluster, hooks=hooks, status=0)
         self.assertRegex(told, rf"guarded, seed 1: {len(orders)} orders, 0 lessened, 0 barred; ")
         self.assertEqual([event["does"] for event in self.events("order")], [*orders])
