@@ -73,9 +73,9 @@ def nemesis_tells_each_end() -> None:
     module = generator()
     code = (ROOT / "tools/nemesis/__init__.py").read_text()
     count = re.search(r"^NONE_LOST, .* = range\((\d+)\)$", code, re.MULTILINE)
-    last = re.search(r"^NOT_LINEARIZABLE = (\d+)$", code, re.MULTILINE)
+    last = re.search(r"^NOT_LINEARIZABLE, DAMAGED = (\d+), (\d+)$", code, re.MULTILINE)
     assert count and last, "the statuses of faultyard-nemesis aren't found"
-    wanted = [*map(str, range(int(count[1]))), last[1], "128 + N"]
+    wanted = [*map(str, range(int(count[1]))), *last.groups(), "128 + N"]
     assert [status for status, _ in module.ends()] == wanted, wanted
     with tempfile.TemporaryDirectory() as folder:
         said("release/pages", "man", folder)

@@ -291,5 +291,7 @@ def main() -> None:
 if __name__ == "__main__":
     try:
         main()
-    except OSError:
+    except OSError as fault:
+        if sys.argv[1] == "start":
+            print(fault, file=sys.stderr)
         sys.exit(1)

@@ -1,7 +1,7 @@
 """How long the hooks of each store are, as docs/HOOKS.md has it.
 
 A line counts if it has code: no blank line, no comment and no text that only documents. What a
-guarded run needs is all but `check`, `get` and `salvage`, and what only these use.
+guarded run needs is all but `check`, `get`, `salvage` and `files`, and what only these use.
 """
 
 from __future__ import annotations
@@ -15,7 +15,7 @@ import tables
 from source import ROOT
 
 HOOKS = "setup start ready join leave elect pause resume whole write check get read salvage".split()
-OPTIONAL = {"check", "get", "salvage"}
+OPTIONAL = {"check", "get", "salvage", "files"}
 NO_CODE = {
     tokenize.COMMENT,
     tokenize.NL,

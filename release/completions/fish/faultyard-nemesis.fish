@@ -18,6 +18,11 @@ complete -c faultyard-nemesis -l disks -x -a "ext4 xfs lossy own" \
 complete -c faultyard-nemesis -l tear -x -a "none draw" \
     -d "What a power cut keeps of what was unsynced"
 complete -c faultyard-nemesis -l deaf-disks -d "Syncs do nothing"
+complete -c faultyard-nemesis -l damage -x \
+    -a "noticed bits zeros swap misdirect missing error truncate rollback" \
+    -d "What RebootAndDelete does to disks"
+complete -c faultyard-nemesis -l damage-seconds -x -d "How long a damaged process is asked"
+complete -c faultyard-nemesis -l damaged-primary -d "A damaged primary keeps its role"
 complete -c faultyard-nemesis -l net -d "A host for each process, whose cable a Clog pulls"
 complete -c faultyard-nemesis -l clog -x -a "both out in" -d "What a Clog loses with --net"
 complete -c faultyard-nemesis -l unguarded -d "Do what was ordered, whatever the guard says"
