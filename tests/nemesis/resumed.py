@@ -239,6 +239,15 @@ class Resumes(Dying):
         self.assertEqual([event["process"] for event in it.events("heal")], [1])
         self.assertEqual(it.counts["lost"], 0)
 
+    def test_a_damaged_disk_is_emptied(self) -> None:
+        words = ("--seconds", 8, "--damage", "bits", "--damage-seconds", 3, "--readers", 0)
+        it = self.both(*words, *self.given((2.0, "p1", "RebootAndDelete")), at=3.0)
+        self.assertEqual([event["process"] for event in it.events("damage")], [1])
+        self.assertEqual(it.events("observed"), [])
+        self.assertIn("1 disks damaged: 1 bits\n  not over: 1 (1 bits)\n", it.told)
+        self.assertEqual([event["process"] for event in it.events("heal")], [1])
+        self.assert_true(it)
+
     def test_who_was_killed_for_good_stays_away(self) -> None:
         words = ("--seconds", 8, *self.given((1.0, "p2", "KillInstantly"), (6.0, "p0", "Reboot")))
         it = self.both(*words, at=4.0)
