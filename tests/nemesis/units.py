@@ -446,6 +446,12 @@ class Clock(unittest.TestCase):
                 clock.run(hangs())
 
 
+def undamaged():
+    """No disk is damaged."""
+    none = {"spared.return_value": 0, "awaits.return_value": (), "conclude.return_value": False}
+    return unittest.mock.Mock(**none)
+
+
 class Waits(unittest.TestCase):
     """Two processes that don't come back."""
 
@@ -456,6 +462,7 @@ class Waits(unittest.TestCase):
         it.names, it.up, it.gone, it.emptied, it.joined = ["p0", "p1"], {0}, set(), set(), {}
         it.words, self.told = unittest.mock.Mock(out="OUT"), []
         it._show, it._elected, it._ended, it._joining = self.told.append, 0, {}, 0
+        it.damages = undamaged()
 
     def now(self):
         return asyncio.get_running_loop().time() - clock.BEGIN
@@ -644,6 +651,7 @@ class Elections(unittest.TestCase):
         it, called = Store.__new__(Store), []
         it.ledger, it._elected, it.emptied, it.gone = unittest.mock.Mock(losses=[0]), 0, {1}, gone
         it._joining, it._alone_until, it.up, it.names = 0, 0.0, {0}, ["p0", "p1"]
+        it.damages = undamaged()
         it.hooks, it.note = unittest.mock.Mock(names={"join", "leave"}), unittest.mock.Mock()
 
         async def says(hook, number):
@@ -675,7 +683,7 @@ class Strikes(unittest.TestCase):
         store.disks, store.emptied, store.joined, self.begun = None, set(), {}, []
         store.hooks, store.not_whole = unittest.mock.Mock(ends={}, names=set()), {}
         store.elsewhere, store.clogged = Elsewhere(store.hooks), set()
-        store.words = unittest.mock.Mock(disks=None)
+        store.words, store.damages = unittest.mock.Mock(disks=None), undamaged()
         store.tasks = asyncio.get_running_loop()
         store._keeping = {it: asyncio.create_task(asyncio.sleep(60)) for it in range(3)}
 
