@@ -207,6 +207,51 @@ class Ends(Case):
             self.assertNotIn("tested little", it.told)
 
 
+class Stops(Case):
+    """A RebootProcess by the hook `stop`."""
+
+    LISTED = "start ready whole write read stop"
+    WORDS = ("--seconds", 9, "--kinds", "1,0,0,0,0", "--pauses", "0.5,1", "--readers", 0)
+
+    def test_it_is_drawn_by_weights_and_a_replay_does_the_same(self) -> None:
+        its = []
+        for weights, least, most in (("1,1", 0.1, 0.9), ("1,0", 1, 1), ("0,1", 0, 0)):
+            words = (*self.WORDS, "--stops", weights)
+            it = self.ran(*words, toy=Toy(1, listed=self.LISTED, pace=0.3), status=0)
+            orders = it.orders()
+            part = sum(order["tear"] for order in orders) / len(orders)
+            self.assertTrue(least <= part <= most, orders)
+            its.append(it)
+        words = ("--seconds", 9, "--readers", 0, "--replay", its[0].out / "events.jsonl")
+        again = self.ran(*words, toy=Toy(1, listed=self.LISTED, pace=0.3), status=0)
+        stopped = [[told["process"] for told in it.events("stopped")] for it in (its[0], again)]
+        self.assertEqual(*stopped)
+        self.assertEqual(
+            len(stopped[0]), sum(len(order["targets"]) * order["tear"] for order in its[0].orders())
+        )
+        self.assertEqual({told["status"] for told in again.events("stopped")}, {0})
+        self.assertNotIn("by itself", again.told)
+        self.assertEqual(again.events("ended"), [])
+
+    def test_what_runs_on_is_killed(self) -> None:
+        for hook, text in (
+            (ends(0), "said yes, and it runs on"),
+            (ends(1, "no"), r"ended with status 1 \(no\)"),
+            (hangs, "hung"),
+        ):
+            toy = Toy(1, listed=self.LISTED, hooks={"stop": hook}, pace=0.3)
+            more = ("--seconds", 3, "--pauses", 1, "--stops", "1,0", "--hook-timeout", 1)
+            it = self.ran(*self.WORDS, *more, toy=toy, status=0)
+            self.assertEqual([told["status"] for told in it.events("stopped")], [None])
+            self.assertRegex(it.told, rf"p\d is killed: stop \d {text}")
+            self.assertEqual(it.counts["kept"], it.acked)
+
+    def test_without_the_hook_nothing_is_drawn(self) -> None:
+        it = self.ran(*self.WORDS, toy=Toy(1, pace=0.3), status=0)
+        self.assertEqual({order["tear"] for order in it.orders()}, {0})
+        self.assertEqual(it.events("stopped"), [])
+
+
 class Little(Case):
     """Runs that say little, and say so."""
 

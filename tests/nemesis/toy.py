@@ -592,6 +592,7 @@ class Toy(Machine):
         self.folder = Path()  # of the run
         self.began = 0.0
         self.members: dict[int, Member] = {}  # those that run
+        self.leaving: dict[int, asyncio.Event] = {}  # is set once a member is to end
         self.filling: set[int] = set()  # those that began empty, and aren't whole since
         self.acked: dict[str, str] = {}  # what `write` said ok of
         self.ok_at: dict[str, float] = {}  # when it did
@@ -770,13 +771,22 @@ class Toy(Machine):
             mode.begun(member, call.is_damaged)
         try:
             lives = [it for mode in self.modes if (it := mode.lives(number)) is not None]
-            await (asyncio.sleep(min(lives)) if lives else forever())
+            self.leaving[number] = asyncio.Event()
+            with suppress(TimeoutError):
+                async with asyncio.timeout(min(lives, default=None)):
+                    await self.leaving[number].wait()
+                    return 0
         finally:
             del self.members[number]
             self.downs[number] = now()
             member.close()
         call.say("assertion failed: the sky is up")
         return 3
+
+    async def stop(self, call: Call) -> int:
+        """Has a member end by itself, after a moment."""
+        asyncio.get_running_loop().call_later(0.3, self.leaving[call.number].set)
+        return 0
 
     async def ready(self, call: Call) -> int:
         await self.ask(call.number, lambda member: None)

@@ -12,6 +12,7 @@ from faultyard.plans import PAUSES, Order
 
 from . import HOOK, USAGE, Fault, clock
 from .clients import Told, pairs
+from .orders import STOPS
 from .traces import traces
 
 if TYPE_CHECKING:
@@ -50,6 +51,9 @@ class HookCheck:
         for number, name in enumerate(self.run.names):
             for kind in clog:
                 await self._order(kind, name)
+            if "stop" in self.hooks.names and Kind.REBOOT_PROCESS in granted:
+                await self._order(Kind.REBOOT_PROCESS, name, STOPS)
+                self._has_stopped(number)
             await self._reboot(name, "setup")
             before = self._known()
             asked = self.run.tasks.create_task(self._ask_the_emptied(number, before))
@@ -73,11 +77,19 @@ class HookCheck:
         while len(self.run.ledger.records) < FEW and clock() < until:
             await asyncio.sleep(SOON)
 
-    async def _order(self, kind: Kind, name: str) -> None:
+    def _has_stopped(self, number: int) -> None:
+        """A process has to end by `stop`, or each upgrade would be a kill."""
+        name, (_, status) = self.run.names[number], self.run.stops[-1]
+        if status is None and not self.run.elsewhere.has("kill"):
+            end = self.hooks.ends.get(number)
+            raise wrong(f"`stop {number}` was asked, and {name} had to be killed: {end}")
+
+    async def _order(self, kind: Kind, name: str, tear: int = 0) -> None:
         """Has a process struck, and waits until it is back."""
         await asyncio.sleep(BEFORE)
         run = self.run
-        await run.obey(run.fault, Order(kind, Key.PROCESS, name, clogged=1.0).act())
+        order = Order(kind, Key.PROCESS, name, clogged=1.0, tear=tear)
+        await run.obey(run.fault, order.act())
         if (done := run.orders[-1])["does"] != kind.value:
             raise Fault(USAGE, f"{kind.value} of {name} is barred by {done['rule']}")
         await run.clogs_ended()

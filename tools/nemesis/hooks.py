@@ -20,7 +20,7 @@ from .places import Place
 
 NEEDED = {"start", "whole", "write", "read"}
 KNOWN = NEEDED | {"hooks", "setup", "ready", "join", "leave", "elect", "pause", "resume"}
-KNOWN |= {"check", "get", "salvage", "files"}
+KNOWN |= {"check", "get", "salvage", "files", "stop"}
 # These act where the tool can't.
 KNOWN |= {"kill", "empty", "fetch", "power", "cut", "mend", "name"}
 # These are no hooks, but promises: no answer of check lags; records stand in files as written.

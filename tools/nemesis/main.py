@@ -62,6 +62,13 @@ def weights(text: str) -> list[float]:
     return found
 
 
+def pair(text: str) -> list[float]:
+    """Two weights."""
+    if len(found := numbers(text)) != 2:
+        raise ValueError(text)
+    return found
+
+
 def parsed(given: Sequence[str] | None = None) -> argparse.Namespace:
     """The words of the command line, which have to be right."""
     it = argparse.ArgumentParser("faultyard-nemesis", description=about, allow_abbrev=False)
@@ -83,6 +90,8 @@ def parsed(given: Sequence[str] | None = None) -> argparse.Namespace:
     add("--kinds", type=weights, metavar="WEIGHTS", help=text)
     text = f"between the orders of mixed ({mixed}), blackout ({blackout}), partition ({partition})"
     add("--pauses", type=numbers, metavar="SECONDS", help=text)
+    text = "how often a RebootProcess is by the hook stop, and by kill -9 (1,1)"
+    add("--stops", type=pair, default=[1.0, 1.0], metavar="STOP,KILL", help=text)
     text = "a disk for each process, whose power a Reboot cuts"
     add("--disks", choices=(*KINDS_OF_DISKS, alone.OWN), help=text)
     text = "what a power cut keeps of what was unsynced: nothing, or what is drawn (draw)"

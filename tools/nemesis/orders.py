@@ -15,18 +15,23 @@ from .disks import tears_of
 FIRST = 1.0  # seconds before the first order
 KINDS = (10.0, 35.0, 54.0, 1.0, 10.0)  # how often each kind is drawn
 SEEDS = range(2**64)  # those of a simulation
+STOPS = 1  # the bit of a tear by which a RebootProcess is by the hook `stop`
 Timed = tuple[float, Order]
 
 
 class Orders:
     """The orders of a run, and whose they are."""
 
-    def __init__(self, words: Namespace, file: ClusterFile, fault: int) -> None:
+    def __init__(
+        self, words: Namespace, file: ClusterFile, fault: int, can_stop: bool = False
+    ) -> None:
         self.words, self.file, self.fault = words, file, fault
         self.granted = file.actors[fault].kinds
         self.timed, self.whose = self._planned()
         if words.damage and not words.replay:
             self.timed = [*self._damaging(self.timed)]
+        if can_stop and not words.replay:
+            self.timed = [*self._stopping(self.timed)]
 
     def _planned(self) -> tuple[list[Timed], str]:
         words = self.words
@@ -74,6 +79,14 @@ class Orders:
         for at, order in timed:
             destroys = order.kind.empties_disk
             yield at, order._replace(tear=next(drawn)) if destroys else order
+
+    def _stopping(self, timed: list[Timed]) -> Iterator[Timed]:
+        """The tear of a RebootProcess says how it is done, drawn apart by the weights."""
+        dice, weights = Random(f"{self.words.seed}-stop"), self.words.stops
+        for at, order in timed:
+            if order.kind is Kind.REBOOT_PROCESS:
+                order = order._replace(tear=dice.choices([STOPS, 0], weights)[0])
+            yield at, order
 
     def _diced(self) -> Iterator[Timed]:
         """Orders that are drawn here."""

@@ -74,7 +74,7 @@ class Run(Store):
         if self.words.attach:
             await attach(self)
         self._have_registers()
-        orders = Orders(self.words, self.file, self.fault)
+        orders = Orders(self.words, self.file, self.fault, "stop" in self.hooks.names)
         try:
             if self.past:
                 recall(self, self.past)

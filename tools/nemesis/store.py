@@ -27,10 +27,12 @@ from .hooks import End, Hooks
 from .machine import Machine
 from .net import Net
 from .observed import Damages
+from .orders import STOPS
 from .places import PORTS, Place, addresses, in_a_row, reached
 
 DEAF = Path(__file__).with_name("deaf.py")
 AGAIN = 0.1  # seconds until a hook that said no is asked again
+SOON = 0.02  # seconds until it is looked again whether a process has ended
 ALONE = 20.0  # seconds for which a process that joined has to be ready before another may join
 CRASHES_SHOWN = 3  # of each process; the summary counts all
 PATIENT = 20.0  # seconds until it is said what is waited for
@@ -69,6 +71,8 @@ class Store(Harness):
         # None once another one was down then, which may be why.
         self.not_whole: dict[int, tuple[float, float] | None] = {}
         self.clogged: set[int] = set()
+        self._stopping: set[int] = set()  # who is asked to end
+        self.stops: list[tuple[int, int | None]] = []  # how each ended; None if it was killed
         self.joined: dict[int, str] = {}  # what the last join of each has done, until it is struck
         self.attached: set[int] = set()  # who runs, and was started by others
         self.idle: set[int] = set()  # those whose last join left the folder empty
@@ -179,7 +183,29 @@ class Store(Harness):
     async def strike(self, processes: Sequence[int], kind: Kind) -> None:
         is_cut = self.words.disks is not None and kind is Kind.REBOOT
         damaged = self.damages.awaits(processes) if kind is Kind.REBOOT_AND_DELETE else ()
+        if kind is Kind.REBOOT_PROCESS and self.order and self.order.tear & STOPS:
+            await self._stop(processes)
         await self._take_down(processes, kind.empties_disk, is_cut, damaged)
+        self._stopping.difference_update(processes)
+
+    async def _stop(self, processes: Sequence[int]) -> None:
+        """Has them end by the hook, if there is one. What runs on is killed behind it."""
+        if "stop" in self.hooks.names:
+            self._stopping.update(processes)
+            await asyncio.gather(*map(self._stop_one, processes))
+
+    async def _stop_one(self, number: int) -> None:
+        process, until = self._started.get(number), clock() + self.hooks.limit
+        says = await self.hooks.says("stop", number)
+        end = self.hooks.ends[number]
+        while says and process and process.returncode is None and clock() < until:
+            await asyncio.sleep(SOON)
+        status = process.returncode if process and says else None
+        self.stops.append((number, status))
+        self.note("stopped", process=number, says=says, status=status)
+        if status is None:
+            text = f"{end.call} said yes, and it runs on" if says else str(end)
+            self.show(f"{self.names[number]} is killed: {text}")
 
     async def _take_down(
         self,
@@ -346,7 +372,12 @@ class Store(Harness):
             async with self._running(number, files) as process:
                 self._started[number] = process
                 life = Life(self.elsewhere, number)
-                while await life.goes_on(process.returncode, number in self.up):
+                while number in self._stopping or (
+                    await life.goes_on(process.returncode, number in self.up)
+                ):
+                    if number in self._stopping:  # it is awaited, and killed, by who stops it
+                        await asyncio.sleep(SOON)
+                        continue
                     if self.damages.is_over(number):
                         return
                     await self._ask_after(number, process)

@@ -8,6 +8,7 @@ complete -c faultyard-nemesis -l plan -x -a "mixed attrition swizzle rolling bla
 complete -c faultyard-nemesis -l kinds -x -d "How often each kind is drawn"
 complete -c faultyard-nemesis -l pauses -x \
     -d "Pauses between orders of mixed, blackout and partition"
+complete -c faultyard-nemesis -l stops -x -d "How often the hook stop ends a process"
 complete -c faultyard-nemesis -l replay -r -d "Do the orders of this events.jsonl"
 complete -c faultyard-nemesis -l resume -r -d "Go on with the run in a folder that died"
 complete -c faultyard-nemesis -l on -x -d "Where processes run: ssh, units, containers, pods"

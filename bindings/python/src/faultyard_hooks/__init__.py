@@ -30,7 +30,7 @@ Answer = TypeVar("Answer")
 MORE = {"?": "?"}  # among what `salvage` returns: there may be more, which it couldn't read
 _user: Dict[str, Any] = {}  # as whom commands run, if not as who runs the hook
 HOOKS = "setup start ready join leave elect pause resume whole write check get read salvage".split()
-HOOKS += "kill empty fetch power cut mend name files".split()
+HOOKS += "kill empty fetch power cut mend name files stop".split()
 # What stands in a module of its own.
 ELSEWHERE = {
     "Amqp": "amqp",
