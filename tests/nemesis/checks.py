@@ -51,6 +51,12 @@ class Checks(Case):
         toy.own["read"] = read
         return toy
 
+    def test_a_stop_that_stops_nothing(self):
+        listed = f"{BARE} stop"
+        self.checked(store(listed=listed), status=0)
+        text = "`stop 0` was asked, and p0 had to be killed"
+        self.checked(store(listed=listed, hooks={"stop": ends(1)}), text)
+
     def test_a_right_store_has_nothing_wrong(self):
         text = (
             r"; audit legal .*\na start took up to \d\.\d s, a heal up to \d\.\d s\n(?s:.*\n)?"

@@ -81,8 +81,8 @@ class HookCheck:
         """A process has to end by `stop`, or each upgrade would be a kill."""
         name, (_, status) = self.run.names[number], self.run.stops[-1]
         if status is None and not self.run.elsewhere.has("kill"):
-            end = self.hooks.ends.get(number)
-            raise wrong(f"`stop {number}` was asked, and {name} had to be killed: {end}")
+            text = f"`stop {number}` was asked, and {name} had to be killed"
+            raise wrong(f"{text}; hooks.log may say why")
 
     async def _order(self, kind: Kind, name: str, tear: int = 0) -> None:
         """Has a process struck, and waits until it is back."""
