@@ -318,6 +318,27 @@ class Words(unittest.TestCase):
         self.assertEqual(pods.reached(1, ["true"])[3:], ["exec", "-i", "p1", "--", "true"])
 
 
+class Full(unittest.TestCase):
+    @unittest.skipIf(os.geteuid(), "a disk of the test's own needs root")
+    def test_a_kill_needs_no_space(self):
+        """It is done on a full disk, and what was asked for before doesn't start any more."""
+        alone = ["unshare", "--mount", "--pid", "--fork", "--kill-child", "--mount-proc"]
+        disk = 'mount -t tmpfs -o size=256k full /mnt && mkdir -p /mnt/run/0 && exec "$@"'
+        words = [*alone, "sh", "-c", disk, "sh", sys.executable, "-S", str(HERE / "full.py")]
+        env = {"FY_DIR": "/mnt/run", "FY_COUNT": "1", "PYTHONDONTWRITEBYTECODE": "1"}
+        env |= {"PATH": os.environ["PATH"], "PYTHONPATH": str(ROOT / "bindings/python/src")}
+        ran = subprocess.run(words, env=env, capture_output=True, text=True, timeout=SECONDS)
+        wanted = [
+            "killed 0 running [] ended True",
+            "too late 96 running []",
+            "emptied 0 running [] ended True",
+            "left False",
+            "without input True",
+            "at the end 0 ['filled']",
+        ]
+        self.assertEqual(ran.stdout.splitlines(), wanted, ran.stderr)
+
+
 class Mends(unittest.TestCase):
     def test_a_host_that_hangs_keeps_none_of_the_others_waiting(self):
         """One that says no is asked again, and the others are mended."""

@@ -29,7 +29,7 @@ marked() {
 """
 # What comes too late, though it was asked for earlier, doesn't run.
 UNLESS_DEAD = """
-[ "$2" -gt "$(cat "$1.dead" 2> /dev/null || echo 0)" ] || exit 96
+[ "$2" -gt "$(readlink "$1.dead" || echo 0)" ] || exit 96
 enter || exit 97
 """
 # The files of a process stand in its folder.
@@ -39,8 +39,11 @@ files() { "$@"; }
 is_there() { [ -d "$folder" ]; }
 wipe() { rm -rf "$folder"; }
 """
+# The mark of a death is a link, which has room on a full disk. Whether it can be made or not, all is
+# killed.
 KILL = """
-mkdir -p "${folder%/*}" && echo "$2" > "$folder.dead" || exit 1
+mkdir -p "${folder%/*}" && ln -sfn "$2" "$folder.dead"
+is_marked=$?
 rounds=0
 while runs; do
     signal_all KILL
@@ -48,6 +51,7 @@ while runs; do
     [ $rounds -lt 10 ] || kill -KILL $(marked FY_HOLDS) 2> /dev/null
     sleep 0.05
 done
+[ $is_marked = 0 ] || exit 1
 """
 PAUSE = """
 signal_all STOP
