@@ -152,7 +152,8 @@ nemesis-aborts:
 ## kills the tool of a run by ssh, its guard, ssh or sshd at a hundred moments: each run ends with
 ## its verdict; takes over half an hour, and has to be root
 nemesis-deaths:
-	HOSTS_DEATHS=100 HOSTS_AT_ONCE=4 tests/hosts/run bin/faultyard deaths by_units by_pods by_containers
+	HOSTS_DEATHS=100 HOSTS_AT_ONCE=4 tests/hosts/run bin/faultyard deaths by_units by_pods \
+		by_containers
 
 ## kills `faultyard-serve` a hundred times while a nemesis and two testers ask it over an etcd of
 ## five, and sends it a hundred thousand wrong requests; takes a quarter of an hour

@@ -39,8 +39,8 @@ files() { "$@"; }
 is_there() { [ -d "$folder" ]; }
 wipe() { rm -rf "$folder"; }
 """
-# The mark of a death is a link, which has room on a full disk. Whether it can be made or not, all is
-# killed.
+# The mark of a death is a link, which has room on a full disk. Whether it can be made or not, all
+# is killed.
 KILL = """
 mkdir -p "${folder%/*}" && ln -sfn "$2" "$folder.dead"
 is_marked=$?
