@@ -375,8 +375,7 @@ class Honest(Case):
     def tried(self, seed: int) -> None:
         does = ("refuse", "fill")[seed % 2]
         own = {"files": ends(0, prints=["log 64"])}
-        modes = [Sums(does), *([Alone()] if seed % 3 == 0 else [])]
-        toy = Toy(seed, *modes, listed=f"{HOOKS} files join", hooks=own, pace=0.4)
+        toy = Toy(seed, Sums(does), listed=f"{HOOKS} files join", hooks=own, pace=0.4)
         words = "--damage", "noticed", "--seed", seed, "--damage-seconds", 1, "--readers", 0
         self.runs += 1
         given = *words, "--plan", "mixed", "--kinds", "0,1,4,0,1", "--pauses", "1,2", "--seconds", 6

@@ -492,7 +492,7 @@ class Call:
     @property
     def is_damaged(self) -> bool:
         """Whether the disk of the member is."""
-        return str(self.number) in self.env["FY_DAMAGED"].split()
+        return str(self.number) in self.env.get("FY_DAMAGED", "").split()
 
     @property
     def able(self) -> list[int]:

@@ -684,6 +684,7 @@ class Strikes(unittest.TestCase):
         store.hooks, store.not_whole = unittest.mock.Mock(ends={}, names=set()), {}
         store.elsewhere, store.clogged = Elsewhere(store.hooks), set()
         store.words, store.damages = unittest.mock.Mock(disks=None), undamaged()
+        store._stopping = set()
         store.tasks = asyncio.get_running_loop()
         store._keeping = {it: asyncio.create_task(asyncio.sleep(60)) for it in range(3)}
 
