@@ -20,7 +20,7 @@ from faultyard.verdicts import Judged, Linear
 from nemesis import HOOK, Fault, checks, resume, summary
 from nemesis.clients import Clients
 from nemesis.crashes import Crashes
-from nemesis.elsewhere import Elsewhere
+from nemesis.elsewhere import Elsewhere, all_of
 from nemesis.hook_log import HookLog
 from nemesis.main import rising
 from nemesis.store import Store
@@ -673,6 +673,25 @@ class Elections(unittest.TestCase):
     async def test_both_are_called_once_elect_has_said_who_is_primary(self):
         self.assertEqual(await self.called(set()), ([], ["join"]))
         self.assertEqual(await self.called({1}), ([], ["leave"]))
+
+
+class Deeds(unittest.TestCase):
+    """What is done at once."""
+
+    @clock.virtual
+    async def test_who_is_interrupted_is_told_by_what(self):
+        async def done():
+            try:
+                await asyncio.sleep(60)
+            except asyncio.CancelledError:
+                raise OSError("its command was ended") from None
+
+        doing = asyncio.create_task(all_of([done(), done()]))
+        await asyncio.sleep(1)
+        doing.cancel(signal.SIGTERM)
+        with self.assertRaises(asyncio.CancelledError) as end:
+            await doing
+        self.assertEqual(end.exception.args, (signal.SIGTERM,))
 
 
 class Strikes(unittest.TestCase):

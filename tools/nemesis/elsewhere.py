@@ -264,8 +264,17 @@ class Partitions:
 
 
 async def all_of(deeds: Iterable[Awaitable[None]]) -> None:
-    """Does all at once; the first fault, once all have ended."""
-    ends = await asyncio.gather(*deeds, return_exceptions=True)
-    for fault in ends:
+    """Does all at once; the first fault, once all have ended. Who is interrupted ends them, and is
+    told by what: `gather` forgets that."""
+    tasks = [asyncio.ensure_future(it) for it in deeds]
+    try:
+        if tasks:
+            await asyncio.wait(tasks)
+    except asyncio.CancelledError:
+        for task in tasks:
+            task.cancel()
+        await asyncio.gather(*tasks, return_exceptions=True)
+        raise
+    for fault in await asyncio.gather(*tasks, return_exceptions=True):
         if isinstance(fault, BaseException):
             raise fault
