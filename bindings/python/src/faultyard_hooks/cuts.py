@@ -15,10 +15,12 @@ import zlib
 from contextlib import contextmanager
 from typing import Any, Iterator, Set
 
-from . import DIR, HOSTS
+from . import DIR
 
 LEASE = 10  # seconds after which a cut is over that isn't renewed
 BEAT = 2.5  # seconds between two renewals
+# Where each process is reached, in `setup` too, which leaves the process that renews.
+HOSTS = os.environ.get("FY_HOSTS", "").split()
 
 # $2 is the table, $3 the lease, $4 the port of sshd, which stays reachable; then come the hosts
 # of which nothing is heard any more.
