@@ -5,6 +5,7 @@ from __future__ import annotations
 import os
 import re
 import subprocess
+import sys
 import tempfile
 from collections.abc import Iterator
 from pathlib import Path
@@ -22,6 +23,10 @@ from checks import (
     tools,
     version,
 )
+
+sys.path.append(str(ROOT / "tests/cli"))
+
+from cases import cases  # noqa: E402
 
 # Faults that no case of tests/cli meets, and why.
 UNMET = {
@@ -133,27 +138,20 @@ def pattern_of(line: str) -> re.Pattern[str]:
     return re.compile("".join(stands_for.get(part) or re.escape(part) for part in parts))
 
 
-def cases() -> Iterator[tuple[str, str, str, int]]:
+def refusals() -> Iterator[tuple[str, str, str, int]]:
     """Each refusal of tests/cli: the name of the case, its command, its line and its status."""
-    for path in sorted((ROOT / "tests/cli").glob("*/*.status")):
-        words = (
-            path.with_suffix(".args")
-            if path.with_suffix(".args").exists()
-            else path.parent / "args"
-        )
-        command = words.read_bytes().split(b"\n")[0].decode() if words.exists() else ""
-        told = path.with_suffix(".stderr")
-        answer = path.with_suffix(".stdout")
-        text = told.read_text() if told.exists() else answer.read_text() if answer.exists() else ""
-        if not text.startswith(("<svg", "{")):  # an answer, and no refusal
-            yield path.stem, command, text.partition("\n")[0], int(path.read_text())
+    for case in cases():
+        text = (case.stderr or case.stdout).decode()
+        if case.status and not text.startswith(("<svg", "{")):  # an answer, and no refusal
+            command = case.args[0].decode() if case.args else ""
+            yield case.name, command, text.partition("\n")[0], case.status
 
 
 def table_explains_each_case() -> None:
     """Each refusal of tests/cli is in the table, for its command; each line has a case."""
     faults = generator().read_faults()
     met = set()
-    for name, command, line, status in cases():
+    for name, command, line, status in refusals():
         rows = [it for it in faults if pattern_of(it.line).fullmatch(line) and it.status == status]
         assert rows, f"no row explains '{line}' of {name}, status {status}"
         assert (

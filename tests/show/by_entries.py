@@ -6,6 +6,7 @@ from __future__ import annotations
 
 import itertools
 import json
+import sys
 import xml.etree.ElementTree as xml
 from collections.abc import Iterator
 from functools import partial
@@ -31,6 +32,10 @@ from program import (
     read_config,
     tick,
 )
+
+sys.path.append(str(ROOT / "tests/cli"))
+
+from cases import cases  # noqa: E402
 
 MOST_COLUMNS = 4000
 # What titles of the long audit say before and behind how many orders there were, by the grants of
@@ -80,10 +85,11 @@ def recorded(program: Program) -> Iterator[Test]:
         assert text == committed, "docs/bad-day.svg is another picture"
 
     yield Test("bad-day", bad_day)
-    scripts = sorted((ROOT / "tests/cli/script").glob("*.from"))
-    audits = [it for it in (it.with_suffix(".stdout") for it in scripts) if it.exists()]
-    for path in (EXAMPLES / "two-zones.audit", *audits):
-        yield Test(path.stem, partial(drawn, program, SIX, path.read_bytes()))
+    two_zones = EXAMPLES / "two-zones.audit"
+    yield Test(two_zones.stem, partial(drawn, program, SIX, two_zones.read_bytes()))
+    for case in cases():
+        if case.command == "script" and case.stdin_from and case.stdout:
+            yield Test(case.name, partial(drawn, program, SIX, case.stdout))
 
 
 def long(program: Program) -> None:

@@ -1,1 +1,0 @@
-head -c 268435457 /dev/zero

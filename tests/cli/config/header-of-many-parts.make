@@ -1,1 +1,0 @@
-printf '['; repeated 250000 a.; printf 'a]\n'

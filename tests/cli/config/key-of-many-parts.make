@@ -1,1 +1,0 @@
-printf a; repeated 250000 .a; printf ' = 1'

@@ -1,1 +1,0 @@
-printf 'policies = '; repeated 500000 '['; repeated 500000 ']'

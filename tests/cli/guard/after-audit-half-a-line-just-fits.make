@@ -1,1 +1,0 @@
-printf '{"audit":2}\n'; repeated 65536 a

@@ -1,1 +1,0 @@
-repeated 65537 a; printf '\n'

@@ -1,1 +1,0 @@
-repeated 65535 ' '; printf '{}\n'

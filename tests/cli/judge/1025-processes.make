@@ -1,1 +1,0 @@
-echo "policy One()"; processes 1025

@@ -1,1 +1,0 @@
-printf 'policy '; repeated 100000 'And('; printf '\n'

@@ -1,1 +1,0 @@
-repeated 65536 a; printf '\n'

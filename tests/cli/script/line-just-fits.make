@@ -1,1 +1,0 @@
-repeated 65534 ' '; printf '{}\n'

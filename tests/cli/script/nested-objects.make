@@ -1,1 +1,0 @@
-repeated 10922 '{"a":'; printf 1; repeated 10922 '}'
