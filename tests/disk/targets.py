@@ -5,11 +5,13 @@ import errno
 import fcntl
 import mmap
 import os
+import resource
 import signal
 import stat
 import struct
 import subprocess
 import time
+from functools import partial
 
 from model import PUNCH, SYNCED, paged, poke, tree_at
 
@@ -21,8 +23,12 @@ OPENED = {"dsync": os.O_DSYNC, "sync": os.O_SYNC}
 SHUTDOWN, NOLOGFLUSH = 0x8004587D, struct.pack("I", 2)  # FS_IOC_SHUTDOWN
 
 
-def die_with_parent():
+def begin(seconds):
+    """Before the program: it dies with its parent, and after so many seconds of processor time, if
+    a number is given."""
     LIBC.prctl(1, signal.SIGKILL)
+    if seconds is not None:
+        resource.setrlimit(resource.RLIMIT_CPU, (seconds, seconds))
 
 
 class Refused(Exception):
@@ -32,15 +38,16 @@ class Refused(Exception):
 class Bare:
     """The disk's code, driven by lines."""
 
-    def __init__(self, program, folder, *words, errors=None):
+    def __init__(self, program, folder, *words, errors=None, seconds=None):
         self.words, self.folder, self.errors = [program, folder, *words], folder, errors
+        self.begin = partial(begin, seconds)
         folder.mkdir(exist_ok=True)
         self.start()
 
     def start(self):
         pipe = subprocess.PIPE
         files = {"stdin": pipe, "stdout": pipe, "stderr": self.errors}
-        self.process = subprocess.Popen(self.words, **files, text=True, preexec_fn=die_with_parent)
+        self.process = subprocess.Popen(self.words, **files, text=True, preexec_fn=self.begin)
 
     def ask(self, *words):
         print(*words, file=self.process.stdin, flush=True)
@@ -239,8 +246,9 @@ class Opened:
 class Mounted(Calls):
     """A mounted disk."""
 
-    def __init__(self, program, folder, *words, errors=None):
+    def __init__(self, program, folder, *words, errors=None, seconds=None):
         self.program, self.folder, self.words, self.errors = program, folder, words, errors
+        self.begin = partial(begin, seconds)
         super().__init__(folder.with_name(f"{folder.name}.mount"))
         folder.mkdir(exist_ok=True)
         self.top.mkdir(exist_ok=True)
@@ -249,7 +257,7 @@ class Mounted(Calls):
     def start(self):
         words = [self.program, "mount", "--foreground", *self.words, self.folder, self.top]
         unfreed = {"ASAN_OPTIONS": "detect_leaks=0"}  # what the kernel held at the end
-        more = {"env": os.environ | unfreed, "stderr": self.errors, "preexec_fn": die_with_parent}
+        more = {"env": os.environ | unfreed, "stderr": self.errors, "preexec_fn": self.begin}
         self.process = subprocess.Popen(list(map(str, words)), **more)
         while not os.path.ismount(self.top):
             assert self.process.poll() is None, "mount ended"

@@ -1,15 +1,24 @@
 """Mutants as their files say them, and the texts that they turn."""
-import os, re
+import re
 
 from mutating.sources import ROOMS_A_CRATE, read, without_comments, without_tests
 
 
-def edit_files(name):
-    return sorted(
-        f"crates/{name}/mutants/{it}"
-        for it in os.listdir(f"crates/{name}/mutants")
-        if it.endswith(".edit")
-    )
+MUTANT = "mutant: "
+
+
+def edits_of(folder):
+    """The mutants of a folder's file mutants.edits: their texts, by name."""
+    texts = {}
+    for line in read(f"{folder}/mutants.edits").splitlines():
+        if line.startswith(MUTANT):
+            name = line.removeprefix(MUTANT)
+            if name in texts:
+                raise ValueError(f"{folder}/mutants.edits has two mutants {name}")
+            texts[name] = ""
+        elif line:
+            texts[name] += f"{line}\n"
+    return texts
 
 
 def law_of(constant, texts):
@@ -97,11 +106,11 @@ class Edit:
     """A mutant: its pairs of texts, the names of the functions that they turn and their paths,
     whether no round can hold it, and the law of the constant that it turns."""
 
-    def __init__(self, file, texts):
-        self.name, self.pairs, self.functions = os.path.basename(file)[: -len(".edit")], [], set()
+    def __init__(self, name, said, texts):
+        self.name, self.pairs, self.functions = name, [], set()
         self.is_alone, self.law, self.paths = False, None, set()
         path = old = None
-        for line in read(file).split("\n"):
+        for line in said.split("\n"):
             if line.startswith("file: "):
                 path = line[len("file: ") :].strip()
             elif line.startswith("old: "):
