@@ -80,9 +80,9 @@ format:
 	for crate in crates/*; do (cd "$$crate" && rt fmt) || exit 1; done
 	tests/style/run format
 
-## makes what pages say of the source: DEFINITIONS.md, CONTRACTS.md, the crates of ARCHITECTURE and
-## their diagram, acts, replies, faults and statuses of FORMATS, the calls of LIBRARY, the lines of
-## hooks, what to do after a kill
+## makes what pages say of the source: the crates of ARCHITECTURE and their diagram, acts, replies,
+## limits, faults and statuses of FORMATS, the calls of LIBRARY, the lines of hooks, what to do after
+## a kill; and CONTRACTS and DEFINITIONS, which only the site and the packages have
 pages:
 	tools/pages/make
 	release/pages tables

@@ -43,8 +43,6 @@ BOOKS: dict[str, tuple[str, int, Callable[[str], int]]] = {
     "Use": (USE, 20_000, words),
     "Inside": (INSIDE, 12_000, words_and_signs),
 }
-# What the source alone says, which is on the site beside the pages of a book.
-MADE = {"docs/CONTRACTS.md", "docs/DEFINITIONS.md"}
 # What a page alone may have, with all that stands between blanks.
 PAGES = {"README.md": 1200, "docs/ARCHITECTURE.md": 2500}
 
@@ -99,7 +97,7 @@ class Lengths(unittest.TestCase):
 
     def test_a_tab_of_the_site_has_the_pages_that_are_counted(self) -> None:
         for book in BOOKS:
-            self.assertEqual(of_the_site(book) - MADE, {*counts(book)})
+            self.assertEqual(of_the_site(book) - set(made.UNKEPT), {*counts(book)})
 
 
 if __name__ == "__main__":

@@ -3,7 +3,7 @@
 from __future__ import annotations
 
 import re
-from collections.abc import Callable
+from collections.abc import Callable, Collection
 from pathlib import Path
 
 import acts
@@ -19,10 +19,16 @@ from source import ROOT
 BEGIN = "<!-- begin: {}, made from the source by make pages -->"
 END = "<!-- end of what is made -->"
 
+# Pages that the repository doesn't keep, since the source says nearly all of them, and where the rest
+# of each stands. The site and the packages have them.
+UNKEPT = {
+    "docs/DEFINITIONS.md": "tools/pages/heads/DEFINITIONS",
+    "docs/CONTRACTS.md": "tools/pages/heads/CONTRACTS",
+}
+
 # A page, the part of it that is made, and what makes it.
 PARTS: tuple[tuple[str, str, Callable[[], str]], ...] = (
     ("docs/DEFINITIONS.md", "definitions", definitions.made),
-    ("docs/CONTRACTS.md", "limits", limits.made),
     ("docs/CONTRACTS.md", "contracts", contracts.made),
     ("docs/ARCHITECTURE.md", "crates", layers.crate_table),
     ("docs/CONTRIBUTING.md", "targets", targets.made),
@@ -31,6 +37,7 @@ PARTS: tuple[tuple[str, str, Callable[[], str]], ...] = (
     ("docs/FORMATS.md", "replies", acts.replies),
     ("docs/FORMATS.md", "rules", acts.rules),
     ("docs/FORMATS.md", "refusals", acts.refusals),
+    ("docs/FORMATS.md", "limits", limits.made),
     ("docs/LIBRARY.md", "calls", header.made),
     ("docs/LIBRARY.md", "undefined", header.undefined),
 )
@@ -55,10 +62,23 @@ def by_hand(page: str) -> str:
     return re.sub(r"(?s)<!-- begin: .*?<!-- end of .*?-->", "", page)
 
 
-def pages() -> dict[Path, str]:
-    """Each page that has a made part, and the diagram, as they should be."""
-    found: dict[Path, str] = {ROOT / "docs/layers.svg": layers.diagram()}
+def pages(names: Collection[str]) -> dict[Path, str]:
+    """These pages as they should be."""
+    found: dict[Path, str] = {}
     for name, part, make in PARTS:
-        path = ROOT / name
-        found[path] = with_part(found.get(path) or path.read_text(), part, make())
+        if name in names:
+            path = ROOT / name
+            page = found.get(path) or (ROOT / UNKEPT.get(name, name)).read_text()
+            found[path] = with_part(page, part, make())
     return found
+
+
+def kept() -> dict[Path, str]:
+    """Each page of the repository that has a made part, and the diagram, as they should be."""
+    diagram = {ROOT / "docs/layers.svg": layers.diagram()}
+    return diagram | pages({name for name, _, _ in PARTS} - set(UNKEPT))
+
+
+def unkept() -> dict[Path, str]:
+    """Each page that the repository doesn't keep."""
+    return pages(UNKEPT)

@@ -20,6 +20,8 @@ GAPS = {"NAME": "[^/]+", "WHAT": "[^/]+", "*": "[^/]+", "PATH": ".+"}
 GENERATED = {
     "bin/libfaultyard.a": "make lib",
     "bin/libfaultyard.so": "make lib",
+    "docs/CONTRACTS.md": "make pages",
+    "docs/DEFINITIONS.md": "make pages",
 }
 FENCED = re.compile(r"(?ms)^ *```.*?^ *```$")
 # What holds names that are gone, or that never were.

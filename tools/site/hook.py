@@ -11,6 +11,7 @@ block of code may stand words for its tests, and a link that is named by its fil
 from __future__ import annotations
 
 import re
+import subprocess
 from collections.abc import Iterator
 from pathlib import Path
 from typing import Any
@@ -75,6 +76,8 @@ def linked(page: str) -> Iterator[str]:
 
 
 def on_config(config: Any) -> Any:
+    # the repository doesn't keep all pages
+    subprocess.run([ROOT / "tools/pages/make", "--unkept"], check=True)
     config["mdx_configs"].setdefault("toc", {})["slugify"] = anchor
     config["markdown_extensions"].append(GitHubLists())
     return config
