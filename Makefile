@@ -71,9 +71,10 @@ merged:
 test:
 	tests/suites test
 
-## runs all tests that need no proof, on the program built without proofs
+## SINCE=.. runs the tests that need no proof, on the program built without proofs: all, or those that
+## look at what changed since a commit, SINCE
 quick:
-	tests/suites quick
+	tests/suites quick $(if $(SINCE),--since $(SINCE))
 
 ## formats all crates, and what isn't Rattle
 format:
