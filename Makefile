@@ -82,8 +82,8 @@ format:
 	tests/style/run format
 
 ## makes what pages say of the source: the crates of ARCHITECTURE and their diagram, acts, replies,
-## limits, faults and statuses of FORMATS, the calls of LIBRARY, the lines of hooks, what to do after
-## a kill; and CONTRACTS and DEFINITIONS, which only the site and the packages have
+## limits, faults and statuses of FORMATS, the calls of LIBRARY, the lines of hooks, what to do
+## after a kill; and CONTRACTS and DEFINITIONS, which only the site and the packages have
 pages:
 	tools/pages/make
 	release/pages tables
@@ -153,8 +153,14 @@ nemesis-aborts:
 ## kills the tool of a run by ssh, its guard, ssh or sshd at a hundred moments: each run ends with
 ## its verdict; takes over half an hour, and has to be root
 nemesis-deaths:
-	HOSTS_DEATHS=100 HOSTS_AT_ONCE=4 tests/hosts/run bin/faultyard deaths by_units by_pods \
-		by_containers
+	HOSTS_DEATHS=100 HOSTS_AT_ONCE=4 tests/hosts/run bin/faultyard deaths
+
+## runs `faultyard-nemesis` on hosts in trouble, as units, in pods and in containers; then redis,
+## etcd and PostgreSQL by ssh, guarded and unguarded with two seeds each, and prints a table; takes
+## a quarter of an hour, and has to be root
+try-hosts: build
+	tests/hosts/run bin/faultyard troubles by_units by_pods by_containers
+	tests/stores/run --ssh bin/faultyard
 
 ## kills `faultyard-serve` a hundred times while a nemesis and two testers ask it over an etcd of
 ## five, and sends it a hundred thousand wrong requests; takes a quarter of an hour
