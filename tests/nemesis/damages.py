@@ -101,6 +101,41 @@ class Folders(Case):
             line = old[found.file][: found.offset].rpartition(b"\n")[2]
             self.assertTrue(line.startswith(found.record.encode()), line)
 
+    def test_a_few_records_more_strike_nearly_the_same(self) -> None:
+        """As in a replay, which never has as many as the run that it does again."""
+        fewer, hit = dict([*VALUES.items()][:120]), 0
+        for word in range(60):
+            found = []
+            for values in (VALUES, fewer):
+                self.runs += 1
+                folder = self.folder(f"{word}-{self.runs}", values)
+                given = word, 0, ["bits"], folder, [Pattern("logs/*.log", 64)], values
+                done = damage.damage(*given)
+                assert done
+                found.append(done)
+            more, less = (int(it.record[2:] or -1) for it in found)
+            self.assertTrue(less <= more <= less + 8, (word, more, less))
+            hit += more >= 0
+        self.assertGreater(hit, 30)
+
+    def test_a_word_says_in_which_file(self) -> None:
+        """Where a record stands in two, as in a log and a table, that doesn't hang on which."""
+        its = {word: set[str]() for word in range(20)}
+        for count in (100, 110, 128):
+            values = dict([*VALUES.items()][:count])
+            for word, names in its.items():
+                self.runs += 1
+                folder = self.folder(f"{word}-{self.runs}", values)
+                both = b"".join((folder / f"logs/{it}.log").read_bytes() for it in range(2))
+                for number in range(2):
+                    (folder / f"logs/{number}.log").write_bytes(both)
+                patterns = [Pattern("logs/*.log", 64)]
+                found = damage.damage(word, 0, ["bits"], folder, patterns, values)
+                assert found
+                names.add(found.file if found.record else "")
+        self.assertEqual([names for names in its.values() if len(names) > 1], [])
+        self.assertEqual(set().union(*its.values()), {"", "logs/0.log", "logs/1.log"})
+
     def test_two_pages_of_a_lone_file_are_swapped(self) -> None:
         patterns = [Pattern("logs/1.log", 64)]
         found, old, new, _ = self.done("swap", 5, patterns)

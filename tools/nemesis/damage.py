@@ -7,7 +7,7 @@ from contextlib import suppress
 from dataclasses import dataclass, replace
 from pathlib import Path
 from random import Random
-from typing import Any, NamedTuple
+from typing import Any, NamedTuple, TypeVar
 
 # A process can see most of them by itself. Two look as if it had never got what came later, and no
 # sum of its own tells them from a crash before a sync.
@@ -22,6 +22,7 @@ NEAR = 16  # bytes before and behind a damage, by which it is known again
 SHOWN = 32  # bytes that an event has of what was there, and is
 NOTHING = bytes(CHUNK)
 Records = Mapping[str, str]
+_T = TypeVar("_T")
 
 
 class Pattern(NamedTuple):
@@ -180,22 +181,31 @@ def place_of(parts: Sequence[tuple[int, bytes]], value: str) -> int:
     return -1
 
 
+def drawn(share: float, its: Sequence[_T]) -> _T:
+    """One of some, by a share of them below 1."""
+    return its[int(share * len(its))]
+
+
 def aim(dice: Random, files: Mapping[Path, int], records: Records) -> Aim:
-    """Most often where something acknowledged stands; else at any page that has something."""
-    parts = {path: extents(path) for path in files}
-    if dice.random() < AIMED:
-        for key in dice.sample([*records], min(SOUGHT, len(records))):
-            places = {path: place_of(parts[path], records[key]) for path in files}
-            if found := [path for path, place in places.items() if place >= 0]:
-                path = dice.choice(found)
-                place = places[path] + dice.randrange(len(records[key]))
-                return Aim(path, place, files[path], key)
+    """Most often where something acknowledged stands; else at any page that has something.
+
+    All is drawn as a share, so that a replay strikes nearly the same where it has a few records
+    more.
+    """
+    parts, keys = {path: extents(path) for path in files}, [*records]
+    aimed, which, *shares = (dice.random() for _ in range(2 + SOUGHT))
+    for key in [drawn(share, keys) for share in shares if aimed < AIMED and keys]:
+        places = {path: place_of(parts[path], records[key]) for path in files}
+        if found := [path for path, place in places.items() if place >= 0]:
+            path = drawn(which, found)
+            place = places[path] + dice.randrange(len(records[key]))
+            return Aim(path, place, files[path], key)
     pages = {path: pages_of(parts[path], page) for path, page in files.items()}
     files = {path: page for path, page in files.items() if pages[path]}
     if not files:
         raise Impossible
     path = dice.choices([*files], [min(len(pages[it]), MOST) for it in files])[0]
-    place = dice.choice(pages[path]) + dice.randrange(files[path])
+    place = drawn(dice.random(), pages[path]) + dice.randrange(files[path])
     return Aim(path, min(place, path.stat().st_size - 1), files[path])
 
 
