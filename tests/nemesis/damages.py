@@ -11,7 +11,7 @@ from lab import CLUSTER, Case, Ran, ran
 from lab import HOOKS as HOOKS_OF_NONE
 from nemesis import damage, main
 from nemesis.damage import NOTICED, Damage, Pattern
-from toy import Alone, Call, Leads, Mode, Spreads, Sums, Toy, ends, hangs
+from toy import Alone, Call, Hook, Leads, Mode, Spreads, Sums, Toy, ends, hangs
 
 COUNT, BATCH = max(1, int(os.environ.get("NEMESIS_SEEDS", 60)) // 5), 4
 HOOKS = "start ready whole write read check salvage"
@@ -385,6 +385,34 @@ class Roles(Case):
         words = "--damage", "bits", "--damage-seconds", 1, "--seconds", 6
         it = self.ran(*words, *self.given((2, "p1", "RebootAndDelete")), toy=toy, status=0)
         self.assertEqual([told["came"] for told in it.events("observed")], ["not asked"])
+
+    def came_by(self, **hooks: Hook) -> list[str]:
+        """What comes of a bit on the disk of p1, by hooks that do otherwise where it is damaged."""
+
+        def choose(name: str, other: Hook) -> Hook:
+            async def asked(call: Call) -> int:
+                is_damaged = call.env.get("FY_DAMAGED") == "1" and call.numbers[:1] in ([], [1])
+                return await (other(call) if is_damaged else getattr(Toy, name)(store, call))
+
+            return asked
+
+        own = {name: choose(name, other) for name, other in hooks.items()}
+        own["files"] = ends(0, prints=["log 64"])
+        store = Toy(1, Sums("fill"), listed=f"{HOOKS} files", hooks=own, pace=0.3)
+        words = "--damage", "bits", "--damage-seconds", 1, "--seconds", 6
+        it = self.ran(*words, *self.given((3, "p1", "RebootAndDelete")), toy=store, status=0)
+        return [told["came"] for told in it.events("observed")]
+
+    def test_what_may_not_be_asked_or_is_not_whole_is_not_said_to_refuse(self) -> None:
+        async def mute(call: Call) -> int:
+            async for _ in call.lines():
+                call.print("?")
+            return 0
+
+        self.assertEqual(self.came_by(), ["repaired"])
+        self.assertEqual(self.came_by(whole=ends(1)), ["not whole"])
+        self.assertEqual(self.came_by(check=mute), ["not asked"])
+        self.assertEqual(self.came_by(check=mute, whole=ends(1)), ["refused"])
 
     def test_wrong_words_are_refused(self) -> None:
         for words, message in (

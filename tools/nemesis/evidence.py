@@ -171,8 +171,12 @@ class Case:
 
     def _after_damage(self) -> str:
         """Which damage may be why: after it a process went on with less than it had."""
-        its = [it for it in self.course.damages if it.came == Came.LACKED]
-        return "".join(f"; {self.course.damaged(it)}, and then it lacked {it.most}" for it in its)
+        then = {Came.LACKED: "lacked {}", Came.NOT_WHOLE: "was not whole"}
+        return "".join(
+            f"; {self.course.damaged(it)}, and then it {then[Came(it.came)].format(it.most)}"
+            for it in self.course.damages
+            if it.came in then
+        )
 
     def _wrong(self) -> str:
         read = self.judged["read"]

@@ -34,6 +34,7 @@ class Came(StrEnum):
     NEVER_UP = "never up"
     REFUSED = "refused"
     LACKED = "lacked"
+    NOT_WHOLE = "not whole"  # it told all, and yet the hook `whole` said no
     REPAIRED = "repaired"
     RIGHT = "told rightly"  # and it is still on the disk
     UNASKED = "not asked"
@@ -100,9 +101,12 @@ class Observed:
             return Came.REFUSED if self.ends else Came.NEVER_UP
         if self.lacks:
             return Came.LACKED
-        if self.untold or self.whole is False:
+        is_mute = self.untold == self.asked  # it told nothing: perhaps it can't be asked at all
+        if self.untold and not (is_mute and self.whole):
             return Came.REFUSED
-        if not self.asked:
+        if self.whole is False:
+            return Came.NOT_WHOLE
+        if is_mute:
             return Came.UNASKED
         return Came.RIGHT if is_there() else Came.REPAIRED
 
