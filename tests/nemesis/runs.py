@@ -11,7 +11,7 @@ import sys
 from collections import Counter
 
 from lab import CLUSTER, HERE, ROOT, Case
-from toy import Call, Crashes, Forgetful, Lags, Partial, Toy, Twice, Unsynced, ends, hangs
+from toy import Call, Crashes, Forgetful, Idle, Lags, Partial, Toy, Twice, Unsynced, ends, hangs
 
 READERS = "start ready whole write read check salvage"
 
@@ -296,6 +296,126 @@ class Little(Case):
         given = self.given((0.5, "p1", "RebootAndDelete"))
         it = self.ran("--seconds", 4, *given, toy=Toy(), status=0)
         self.assertNotIn("tested little", it.told)
+
+
+class Strict(Case):
+    """What wasn't tested is the status, if that is asked; else the same run ends with 0."""
+
+    is_shown = False
+
+    def both(self, status, *words, **toy):
+        """What a run tells, which ends so with --strict, and with 0 without."""
+        its = [
+            self.ran(*words, *more, toy=Toy(3, **toy), status=ends_with)
+            for more, ends_with in ((("--strict",), status), ((), 0))
+        ]
+        told = [it.told.replace(str(it.out), "") for it in its]
+        self.assertEqual(*told)
+        return its[0]
+
+    def test_a_run_that_tested_enough_ends_with_0(self) -> None:
+        given = self.given((0.5, "p1", "RebootAndDelete"))
+        self.both(0, "--seconds", 4, *given)
+
+    def test_a_store_that_nothing_could_be_read_from(self) -> None:
+        """Its disks have all, so all is kept; and nobody could have read that."""
+        given = self.given((0.5, "p1", "RebootAndDelete"))
+        hooks = {"read": ends(1, "no quorum")}
+        words = ("--seconds", 4, "--hook-timeout", 1, *given)
+        it = self.both(12, *words, listed="start ready whole write read salvage", hooks=hooks)
+        self.assertIn("nothing could be read in 6 seconds: read ended with status 1 (no", it.told)
+        self.assertIn("tested little: no `read` was answered at the end", it.told)
+        self.assertEqual(it.counts["kept"], it.acked)
+
+    def test_a_run_in_which_little_was_done(self) -> None:
+        it = self.both(14, "--seconds", 4, *self.given((0.5, "p1", "Reboot")))
+        self.assertIn("tested little: nothing was destroyed", it.told)
+
+    def test_an_end_that_takes_long_is_told(self) -> None:
+        async def read(call: Call) -> int:
+            await asyncio.sleep(25)
+            return await store.read(call)
+
+        given = self.given((0.5, "p1", "RebootAndDelete"))
+        for words, status in ((["--strict"], 15), ([], 0)):
+            store = Toy()
+            store.own["read"] = read
+            it = self.ran("--seconds", 4, *given, *words, toy=store, status=status)
+            line = (
+                r"it took (\d+\.\d) s, and --seconds is 4: 4\.0 s of writing, (\d+\.\d) s reading"
+            )
+            found = re.search(line, it.told)
+            assert found, it.told
+            self.assertGreaterEqual(float(found[2]), 25)
+            self.assertAlmostEqual(float(found[1]), 4 + float(found[2]), delta=2)
+
+    def test_a_finding_is_the_status_all_the_same(self) -> None:
+        given = self.given((0.5, "p1", "RebootAndDelete"))
+        it = self.ran("--seconds", 1, "--strict", *given, toy=Toy(0, Partial(5)), status=1)
+        self.assertIn("tested little", it.told)
+
+
+class Paced(Case):
+    """Plans whose orders wait, as a store that starts slowly needs."""
+
+    is_shown = False
+    SLOW = {"boots": 4.5, "pace": 0.9}
+    WORDS = ("--plan", "rolling", "--seconds", 40)
+
+    def whole_at(self, it):
+        """Who was up and not destroyed when each order came, by the events before it."""
+        up, destroyed = {0, 1, 2}, set[int]()
+        for event in it.lines("events.jsonl"):
+            struck = set[int]()
+            match event["what"]:
+                case "order":
+                    yield up - destroyed
+                    struck = {*event["targets"]}
+                case "destroyed":
+                    destroyed |= {*event["processes"]}
+                case "heal":
+                    destroyed.discard(event["process"])
+            up = {*event["up"]} - struck
+
+    def test_rolling_goes_faster_than_a_store_that_starts_slowly(self) -> None:
+        it = self.ran(*self.WORDS, toy=Toy(1, **self.SLOW), status=0)
+        early = sum(len(whole) < 3 for whole in self.whole_at(it))
+        self.assertGreater(early, len(it.orders()) / 2)
+        came = f"{early} of {len(it.orders())} orders came before all were up and whole again"
+        self.assertIn(f"tested little: {came}: --when-whole waits", it.told)
+
+    def test_when_whole_waits_until_all_are_up_and_whole(self) -> None:
+        it = self.ran(*self.WORDS, "--when-whole", toy=Toy(1, **self.SLOW), status=0)
+        self.assertEqual({len(whole) for whole in self.whole_at(it)}, {3})
+        # Each is emptied in the third round, and none is lessened.
+        self.assertGreater(len(it.orders()), 6)
+        self.assertEqual([order["does"] for order in it.orders()][6], "RebootAndDelete")
+        self.assertNotIn("orders came before", it.told)
+
+    def test_when_whole_a_pause_comes_before_each_order(self) -> None:
+        words = (*self.WORDS, "--when-whole", "--pauses", 5)
+        it = self.ran(*words, toy=Toy(1, **self.SLOW), status=0)
+        ups = [event["t"] for event in it.events("up")]
+        times = [order["t"] for order in it.orders()]
+        for one, other in zip(times, times[1:]):
+            self.assertGreaterEqual(round(other - one, 3), 5)
+        self.assertGreater(len(ups), 3)
+
+    def test_when_one_is_never_whole_no_order_comes(self) -> None:
+        """And the run ends when it says."""
+        words = ("--seconds", 30, "--when-whole", "--kinds", "0,0,1,0,0", "--pauses", 1)
+        it = self.ran(*words, toy=Toy(1, Idle(), pace=0.9), status=0)
+        self.assertEqual(len(it.orders()), 1)
+        self.assertAlmostEqual(it.events("written")[0]["t"], 30, delta=1)
+
+    def test_any_plan_takes_its_pauses(self) -> None:
+        for plan, least in (("rolling", 7), ("attrition", 7), ("mixed", 7)):
+            words = ("--seconds", 30, "--plan", plan, "--pauses", 7)
+            it = self.ran(*words, toy=Toy(1, pace=0.9), status=0)
+            times = [order["t"] for order in it.orders()]
+            self.assertGreater(len(times), 2, plan)
+            for one, other in zip(times, times[1:]):
+                self.assertGreaterEqual(round(other - one, 1), least)
 
 
 class Late(Case):

@@ -19,10 +19,12 @@ from faultyard.plans import Order
 from faultyard.verdicts import Judged, Linear
 from nemesis import HOOK, Fault, checks, resume, summary
 from nemesis.clients import Clients
-from nemesis.crashes import Crashes
+from nemesis.crashes import LOG_END, LOOKED_AT, Crashes, end_of_log
+from nemesis.disks import Cut
 from nemesis.elsewhere import Elsewhere, all_of
 from nemesis.hook_log import HookLog
 from nemesis.main import rising
+from nemesis.stages import READY, WRITING, Stages
 from nemesis.store import Store
 from nemesis.traces import traces
 
@@ -134,7 +136,8 @@ class Summaries(unittest.TestCase):
 
     def test_a_run_says_why_it_tested_little(self):
         def told(*amount, is_control=False, **more):
-            return summary.tested_little(summary.Amount(*amount, **more), is_control)
+            controls = [summary.MILD] if is_control else []
+            return self.untested(*amount, controls=controls, is_lost=is_control, **more)
 
         self.assertEqual(told(100, [0.5, 0.5, 1.0], 1, 1), [])
         for acked in (7, 99):
@@ -157,14 +160,109 @@ class Summaries(unittest.TestCase):
 
     def test_where_few_were_acknowledged_it_says_what_write_said(self):
         def told(acked, pauses, said=("no quorum", 5)):
-            amount = summary.Amount(acked, pauses, 1, 1, failed={"no": 6, "ended": 1}, said=said)
-            return [it for it in summary.tested_little(amount) if "weren't" in it]
+            more = {"failed": {"no": 6, "ended": 1}, "said": said}
+            return [it for it in self.untested(acked, pauses, 1, 1, **more) if "weren't" in it]
 
         text = "tested little: 7 writes weren't acknowledged (6 no, 1 ended)"
         self.assertEqual(told(99, [0.5]), [f"{text}; `write` said most often, 5 times: no quorum"])
         self.assertEqual(told(100, [1.0], ("", 0)), [text])
         self.assertEqual(told(100, [0.5]), [])
-        self.assertEqual(summary.tested_little(summary.Amount(100, [1.0], 1, 1))[1:], [])
+        self.assertEqual(self.untested(100, [1.0], 1, 1)[1:], [])
+
+    def untested(self, *amount, controls=(), is_lost=False, **more):
+        """The lines of what wasn't tested."""
+        amount = summary.Amount(*amount, **more)
+        return [*map(str, summary.untested(amount, controls, is_lost))]
+
+    def more(self, status, controls=(), is_lost=False, **more):
+        """What wasn't tested besides, in a run of which nothing else is to say."""
+        found = [*summary.untested(summary.Amount(100, [0.5], 1, 1, **more), controls, is_lost)]
+        self.assertEqual({it.status for it in found}, {status} if found else set())
+        return [it.text for it in found]
+
+    def test_power_cuts_that_took_nothing_are_told(self):
+        kept = "2 power cuts kept all 7 unsynced items: with --tear none they keep none"
+        none = "nothing was unsynced at any of 2 power cuts"
+        for cuts, lines in (
+            (None, []),
+            ([], ["no power was cut"]),
+            ([Cut(3, 3), Cut(4, 4)], [kept]),
+            ([Cut(3, 3), Cut(3, 4)], []),
+            ([Cut(0, 0), Cut(0, 0)], [none]),
+            ([Cut(), Cut()], []),  # a kernel doesn't tell
+            ([Cut(3, 3), Cut()], []),
+        ):
+            with self.subTest(cuts=cuts):
+                self.assertEqual(self.more(13, cuts=cuts), lines)
+
+    def test_a_store_that_could_not_be_read_is_told_unless_a_record_may_be_lost(self):
+        (line,) = self.more(12, is_unread=True)
+        self.assertIn("no `read` was answered at the end", line)
+        self.assertEqual(self.more(12, is_unread=True, is_lost=True), [])
+
+    def test_controls_that_lost_nothing_are_told(self):
+        its = [summary.MILD, summary.DEAF]
+        self.assertEqual(self.more(14, its), its)
+        self.assertEqual(self.more(14, its, is_lost=True), [])
+        self.assertEqual(self.more(14, damaged=0), ["no disk was damaged"])
+        self.assertEqual(self.more(14, damaged=1), [])
+
+    def test_orders_that_came_too_early_are_told_where_writes_stood(self):
+        def told(orders, early, pauses=(1.0, 0.5)):
+            amount = summary.Amount(100, [*pauses], 1, 1, orders=orders, early=early)
+            return [it.text for it in summary.untested(amount, (), False)][1:]
+
+        came = "6 of 10 orders came before all were up and whole again: --when-whole waits for that"
+        self.assertEqual(told(10, 6), [f"{came}, and --pauses are longer"])
+        self.assertEqual(told(10, 5), [])
+        self.assertEqual(told(10, 10, pauses=(0.5, 0.5)), [])
+
+    def test_strictly_the_first_of_what_was_not_tested_is_the_status(self):
+        lacks = [summary.Untested("", status) for status in (14, 13, 12)]
+        for first, status in enumerate((12, 12, 12)):
+            self.assertEqual(summary.strictly(0, lacks[first:], is_long=True), status)
+        self.assertEqual(summary.strictly(0, lacks[:2], is_long=False), 13)
+        self.assertEqual(summary.strictly(0, lacks[:1], is_long=True), 14)
+        self.assertEqual(summary.strictly(0, [], is_long=True), 15)
+        self.assertEqual(summary.strictly(0, [], is_long=False), 0)
+        for status in range(1, 12):
+            self.assertEqual(summary.strictly(status, lacks, is_long=True), status)
+
+
+class Lasting(unittest.TestCase):
+    """How long a run took, and where that went."""
+
+    async def told(self, seconds, *parts):
+        stages = Stages()
+        for name, took in parts:
+            await asyncio.sleep(took)
+            stages.end(name)
+        return stages.told(seconds), stages.is_long(seconds)
+
+    @clock.virtual
+    async def test_a_run_that_lasts_longer_says_why(self):
+        parts = (READY, 14.0), ("until a first record", 0.5), (WRITING, 60.0), ("reading", 21.5)
+        line = "it took 96.0 s, and --seconds is 60: 14.0 s until all were ready, 60.0 s of writing"
+        self.assertEqual(await self.told(60, *parts), ([f"{line}, 21.5 s reading"], True))
+
+    @clock.virtual
+    async def test_a_part_that_goes_on_counts_once(self):
+        parts = ("reading", 6.0), ("asking", 8.0), ("reading", 6.0)
+        line = "it took 20.0 s, and --seconds is 5: 12.0 s reading, 8.0 s asking"
+        self.assertEqual(await self.told(5, *parts), ([line], True))
+
+    @clock.virtual
+    async def test_it_may_last_a_fifth_longer_and_at_least_ten_seconds(self):
+        for seconds, allowed in ((0, 10), (5, 15), (50, 60), (60, 72), (100, 120)):
+            lines, is_long = await self.told(seconds, (WRITING, allowed))
+            self.assertEqual((lines, is_long), ([], False))
+            lines, is_long = await self.told(seconds, (WRITING, allowed + 0.5))
+            self.assertEqual((len(lines), is_long), (1, True))
+
+    @clock.virtual
+    async def test_until_all_are_ready_it_may_last_as_it_does(self):
+        lines, is_long = await self.told(10, (READY, 50.0), (WRITING, 10.0))
+        self.assertEqual((len(lines), is_long), (1, False))
 
 
 class Whole(unittest.TestCase):
@@ -592,6 +690,66 @@ class Ends(unittest.TestCase):
             self.assertEqual(self.last(status, "x"), f"with status {status}: x")
         self.assertEqual(self.last(1), "with status 1: its log says nothing")
 
+    def test_the_first_error_is_why(self):
+        """As logs of stores have them: their own lines, by each kind of level and by words."""
+        error = "2026-11-30  0:32:10 0 [ERROR] WSREP: failed to open gcomm backend connection: 110"
+        galera = [
+            "2026-11-30  0:31:40 0 [Note] WSREP: view(view_id(NON_PRIM,exception,1))",
+            "2026-11-30  0:31:50 0 [Warning] WSREP: no nodes coming from prim view: error 110",
+            error,
+            "\t at ./gcomm/src/pc.cpp:connect():160",
+            "2026-11-30  0:32:10 0 [ERROR] Aborting",
+            "2026-11-30  0:32:11 0 [Note] mariadbd: Shutdown complete",
+        ]
+        postgres = [
+            "00:01 [7] FATAL:  the database system is starting up",
+            "00:01 [8] PANIC:  could not locate a valid checkpoint record",
+            "00:02 [1] LOG:  startup process (PID 8) was terminated by signal 6: Aborted",
+        ]
+        zap = [
+            '{"level":"warn","msg":"prober detected unhealthy status","error":"refused"}',
+            '{"level":"fatal","msg":"failed to recover v3 backend from snapshot"}',
+            '{"level":"info","msg":"closed"}',
+        ]
+        for log, line in (
+            (galera, error),
+            (postgres, postgres[1]),
+            (zap, zap[1]),
+            (["2026 W | an error", "2026 E | etcdserver: no space", "c"], "2026 E | etcdserver"),
+            (["[7] 00:01 [ERR] JetStream: disk is full", "[7] 00:02 [INF] Exiting"], "[7] 00:01"),
+            (["00:01 [error] <0.1.0> boot failed", "00:02 [info] stopped"], "00:01 [error]"),
+            (["ERROR [main] - Unexpected exception", "INFO [main] - Exiting"], "ERROR [main]"),
+            (["00001|raft|ERR|no leader", "00002|x|INFO|Exiting"], "00001|raft|ERR"),
+            (["error: no space", "at exit"], "error: no space"),
+            (["mystore: error: no space", "at exit"], "mystore: error"),
+            (["0 errors", "an error-free start", "bye"], "bye"),
+            (["WARN - java.net.ConnectException: refused", "bye"], "bye"),
+        ):
+            with self.subTest(line=line):
+                self.assertIn(f": {line}", self.last(3, *log))
+
+    def test_the_first_error_is_kept_with_the_last_lines(self):
+        with tempfile.TemporaryDirectory() as folder:
+            path = Path(folder, "log")
+            first, filler = "ERROR the first", "x" * 99
+            for before, behind, is_told in (
+                (0, LOG_END, True),
+                (LOG_END, LOOKED_AT - 200, True),
+                (0, LOOKED_AT + 200, False),
+                (0, 200, True),
+            ):
+                lines = [filler] * (before // 100) + [first, "ERROR another"]
+                lines += [filler] * (behind // 100)
+                path.write_text("".join(f"{line}\n" for line in lines))
+                with self.subTest(before=before, behind=behind):
+                    log = end_of_log(path, 0)
+                    self.assertEqual(log.count(first), is_told)
+                    self.assertEqual(log[-1], filler)
+                    self.assertLessEqual(len("".join(log)), LOG_END + len(first))
+            path.write_text(f"{first}\nERROR another\n{filler}\n")
+            begin = len(first) + 1
+            self.assertEqual(end_of_log(path, begin), ["ERROR another", filler])
+
     def test_before_a_backtrace_is_why(self):
         frames = [
             "#0  0x59aad9 in print_backtrace+9",
@@ -617,7 +775,8 @@ class Ends(unittest.TestCase):
             (go, go[0]),
             (["SIGBUS at 0x1", "registers", *frames], "SIGBUS at 0x1"),
             (["registers", *frames], "its log ends with a backtrace"),
-            ([*begun, *frames, "restart me"], "restart me"),
+            ([*begun, *frames, "restart me"], "Segmentation fault"),
+            ([*frames, "restart me"], "restart me"),
         ):
             with self.subTest(log=log):
                 self.assertEqual(self.last(3, *log), f"with status 3: {line}")

@@ -53,14 +53,11 @@ class Words(Case):
             ([*right, "--kinds", "1,2"], "5 weights are wanted, and 2 are given"),
             ([*right, "--plan", "none"], "--plan"),
             (
-                [*right, "--pauses", "1", "--plan", "attrition"],
-                "goes with mixed, blackout, partition",
-            ),
-            (
                 [*right, "--kinds", "1,1,1,1,1", "--plan", "rolling"],
-                "--kinds has no effect with --plan rolling",
+                "--kinds has no effect with --plan rolling: it goes with mixed, attrition, swizzle",
             ),
             ([*right, "--pauses", "1", "--replay", torn], "--pauses has no effect with --replay"),
+            ([*right, "--when-whole", "--replay", torn], "--when-whole has no effect with"),
             ([*right, "--replay", self.room / "none"], "there is no file"),
             ([*right, "--plan", "partition"], "--plan partition needs --net"),
             ([*right, "--plan", "blackout"], "needs a place that all processes share"),

@@ -6,6 +6,8 @@ from contextlib import suppress
 # How the tool ends.
 NONE_LOST, LOST, USAGE, HOOK, GUARD, TOOL, UNREADABLE, STALE, WRONG, MISSING = range(10)
 NOT_LINEARIZABLE, DAMAGED = 10, 11
+# With --strict, where nothing is wrong and something wasn't tested.
+UNREAD, UNTORN, LITTLE, LONG = 12, 13, 14, 15
 
 
 class Fault(Exception):

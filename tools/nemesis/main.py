@@ -16,7 +16,7 @@ import faultyard
 from faultyard import ConfigRefused, FaultyardError, Guard, GuardEnded, HistoryRefused
 from faultyard import InvalidAct, Kind
 from faultyard import NotFound
-from faultyard.plans import BLACKOUTS, PARTITIONS, PAUSES, PLANS
+from faultyard.plans import PLANS
 from faultyard.verdicts import Verdict
 from config_check.main import explain
 from keeper import adopt_orphans, end_children
@@ -36,10 +36,10 @@ from .places import places
 from .picture import draw
 from .resume import WORDS, Past, Words, is_alive, over
 from .run import Run
-from .summary import MILD, besides, closing, tested_little
+from .summary import DEAF, MILD, Untested, besides, closing, strictly, untested
 
-# The words that only some plans draw by.
-DRAWN = {"kinds": ("mixed", "attrition", "swizzle"), "pauses": ("mixed", "blackout", "partition")}
+# The words that say how orders are drawn, each with the plans that it goes with.
+DRAWN = {"kinds": ("mixed", "attrition", "swizzle"), "pauses": PLANS, "when_whole": PLANS}
 LEAST = {"seed": 0, "seconds": 0, "writers": 1, "readers": 0, "registers": 0, "hook_timeout": 0.1}
 LEAST |= {"damage_seconds": 0}
 SHOWN = 5  # cases that are told on the terminal; records.jsonl has all
@@ -83,13 +83,13 @@ def parsed(given: Sequence[str] | None = None) -> argparse.Namespace:
         help="how long records are written, once all are ready (60)",
     )
     add("--plan", choices=PLANS, default="mixed", help="how orders are drawn (mixed)")
-    kinds, mixed, blackout, partition = (
-        ",".join(f"{it:g}" for it in those) for those in (KINDS, PAUSES, BLACKOUTS, PARTITIONS)
-    )
+    kinds = ",".join(f"{it:g}" for it in KINDS)
     text = f"how often each kind that is granted is drawn, from the mildest; Clog last ({kinds})"
     add("--kinds", type=weights, metavar="WEIGHTS", help=text)
-    text = f"between the orders of mixed ({mixed}), blackout ({blackout}), partition ({partition})"
+    text = "between orders, one of these each time; each plan has its own"
     add("--pauses", type=numbers, metavar="SECONDS", help=text)
+    text = "each order waits, after its pause, until all processes are up and whole"
+    add("--when-whole", action="store_true", help=text)
     text = "how often a RebootProcess is by the hook stop, and by kill -9 (1,1)"
     add("--stops", type=pair, default=[1.0, 1.0], metavar="STOP,KILL", help=text)
     text = "a disk for each process, whose power a Reboot cuts"
@@ -138,6 +138,8 @@ def parsed(given: Sequence[str] | None = None) -> argparse.Namespace:
     add("--out", type=Path, metavar="FOLDER", help="empty or new; else a new one below TMPDIR")
     add("--keep", action="store_true", help="keep the data of the processes if nothing is lost")
     add("--quiet", action="store_true", help="print the summary alone")
+    text = "end with 12 to 15 where nothing is wrong and something wasn't tested, as a line says"
+    add("--strict", action="store_true", help=text)
     text = "print the history of a run that has ended as EDN, and do nothing else"
     add("--edn", action=Convert, metavar="FOLDER", help=text)
     words = it.parse_args(given := with_those_of_a_run(it, given))
@@ -211,10 +213,11 @@ def with_those_of_a_run(parser: argparse.ArgumentParser, given: Sequence[str] | 
 def without_effect(words: argparse.Namespace) -> str | None:
     """Which word says how orders are drawn that aren't drawn so, if one does."""
     for name, plans in DRAWN.items():
+        word = f"--{name.replace('_', '-')}"
         if vars(words)[name] and words.replay:
-            return f"--{name} has no effect with --replay, whose orders have their times and kinds"
+            return f"{word} has no effect with --replay, whose orders have their times and kinds"
         if vars(words)[name] and words.plan not in plans:
-            text = f"--{name} has no effect with --plan {words.plan}"
+            text = f"{word} has no effect with --plan {words.plan}"
             return f"{text}: it goes with {', '.join(plans)}"
     return None
 
@@ -387,6 +390,13 @@ def after_cuts(run: Run) -> list[str]:
     return lines
 
 
+def not_tested(run: Run) -> list[Untested]:
+    """What a run didn't test."""
+    its = {MILD: run.words.unguarded, DEAF: run.words.deaf_disks}
+    controls = [text for text, is_so in its.items() if is_so]
+    return [*untested(run.amount(), controls, is_lost=run.judged.is_unclear)]
+
+
 def report(run: Run, is_read: bool = True) -> int:
     """Prints what a run comes to, and says how the tool ends."""
     words, judged, checked = run.words, run.judged, write_files(run)
@@ -394,10 +404,9 @@ def report(run: Run, is_read: bool = True) -> int:
     title += f", {run.partitions} partitions" if run.partitions else ""
     lines = run.summary(title) + run.damages.summed() + run.notes + run.power() + after_cuts(run)
     lines += run.ended_by_themselves()
-    if is_read and not words.check_hooks:
-        lines += tested_little(run.amount(), is_control=words.unguarded and judged["lost"] > 0)
-        if words.unguarded and not judged.is_unclear:
-            lines.append(MILD)
+    lacks = not_tested(run) if is_read and not words.check_hooks else []
+    lines += map(str, lacks)
+    lines += run.stages.told(words.seconds) if is_read and run.is_timed else []
     lines += told_cases(run.cases, SHOWN)
     lines += [*besides(judged), *summary.told_keys(run.linear, SHOWN)] if is_read else []
     acked = len(run.ledger.records)
@@ -410,4 +419,6 @@ def report(run: Run, is_read: bool = True) -> int:
     if checked != f"legal {run.guard.journal_len()}":
         return GUARD
     is_fresh, alone = "fresh" in run.hooks.names, len(run.told_alone)
-    return summary.status(judged, run.linear, is_fresh, run.is_unread, alone)
+    status = summary.status(judged, run.linear, is_fresh, run.is_unread, alone)
+    is_long = run.is_timed and run.stages.is_long(words.seconds)
+    return strictly(status, lacks, is_long) if words.strict else status

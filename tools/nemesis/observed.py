@@ -312,10 +312,8 @@ class Damages:
 
     def summed(self) -> list[str]:
         """Lines of the summary."""
-        if not self.words.damage:
-            return []
         if not self.past:
-            return ["tested little: no disk was damaged"]
+            return []
         lines = [f"{len(self.past)} disks damaged: {counted(it.damage.kind for it in self.past)}"]
         for came, count in Counter(it.came for it in self.past).items():
             kinds = counted(it.damage.kind for it in self.past if it.came == came)

@@ -22,6 +22,7 @@ from .evidence import MORE, Case, Course, Disk, Left, told_alone, unwritten, unw
 from .machine import Machine
 from .orders import Orders, Timed
 from .resume import Mark, Past, Words, end_what_runs, events_of, left_of, recall
+from .stages import READY, WRITING, Stages
 from .store import AGAIN, Store, cancelled
 from .summary import Amount, failures
 from .timeline import lines_of
@@ -48,6 +49,7 @@ class Run(Store):
     cases: list[dict[str, Any]] = []  # the evidence of each that isn't kept, as in records.jsonl
     told_alone: list[dict[str, Any]] = []  # of them what a process with a damaged disk told alone
     is_unread = False  # whether `read` hung, so that only disks and `check` can say what is left
+    is_answered = True  # whether `read` told anything at the end
 
     def __init__(
         self, words: Namespace, guard: Guard, machine: Machine, past: Past | None = None
@@ -55,6 +57,9 @@ class Run(Store):
         """`past` is what it had done when it died."""
         super().__init__(words, guard, machine, goes_on=past is not None)
         self.past = past
+        self.stages = Stages()
+        self.is_timed = past is None and not words.check_hooks
+        self.made = self.early = 0  # orders, and of them those before all were up and whole again
         self.is_left = False  # whether a cluster that others started is left as it was
         self.down: list[str] = []  # who did not run at the end
         self.notes: list[str] = []  # who was not back at the end, and why nothing could be read
@@ -81,6 +86,7 @@ class Run(Store):
             await self.lay_out(goes_on=self.past is not None)
             async with self.hooks.set_up(), self._ending(), asyncio.TaskGroup() as tasks:
                 await self._begin(tasks)
+                self.stages.end(READY)
                 self.show(f"orders: {orders.whose}")
                 if not self.history.is_written:
                     await self._chaos(orders.timed)
@@ -88,8 +94,10 @@ class Run(Store):
                 if self.words.attach:
                     await leave(self)
                 await self.end()
+                self.stages.end("until all had ended")
                 await self.check.disks()
                 await self._judge(left)
+                self.stages.end("looking at disks, and judging")
                 if self.disks:
                     await self.disks.end()
         except ExceptionGroup as faults:
@@ -153,12 +161,8 @@ class Run(Store):
         if words.check_hooks:
             self.notes += await self.check.whole()
         orders, late = await self._left_of(orders)
-        for at, order in orders:
-            await asyncio.sleep(at + late - self.ledger.now())
-            if order.cuts:
-                await self.partition(order)
-            elif self.targets(order.key, order.value):  # who is gone can't be struck again
-                await self.obey(self.fault, order.act())
+        self.stages.end("until a first record was acknowledged")
+        await self._make(orders, late, until=words.seconds + late)
         if not words.check_hooks:
             await asyncio.sleep(words.seconds + late - self.ledger.now())
         async with self.turn:
@@ -166,8 +170,26 @@ class Run(Store):
         self.ledger.stop()
         self.note("written")
         self.history.written()
+        self.stages.end(WRITING)
         await self.clogs_ended(at_once=True)
         await self.damages.over()
+        self.stages.end("until faults had ended")
+
+    async def _make(self, orders: list[Timed], late: float, until: float) -> None:
+        """Makes the orders, so many seconds later than planned; with --when-whole later still."""
+        for at, order in orders:
+            await asyncio.sleep(at + late - self.ledger.now())
+            while self.words.when_whole and self.waiting() and self.ledger.now() < until:
+                await asyncio.sleep(AGAIN)
+            if self.words.when_whole:
+                late = max(late, self.ledger.now() - at)
+                if self.ledger.now() >= until:
+                    return
+            self.made, self.early = self.made + 1, self.early + bool(self.waiting())
+            if order.cuts:
+                await self.partition(order)
+            elif self.targets(order.key, order.value):  # who is gone can't be struck again
+                await self.obey(self.fault, order.act())
 
     async def _left_of(self, orders: list[Timed]) -> tuple[list[Timed], float]:
         """The orders that are still to be done, and how many seconds later than planned."""
@@ -205,6 +227,7 @@ class Run(Store):
         """What the store tells at the end, all of it and each process alone."""
         self.show("reads what is left")
         found, acked = await self.clients.read(), list(self.ledger.records)
+        self.stages.end("reading")
         if not acked:
             amount, asked = self.amount(), len(self.history.writes)
             why = failures(amount) if amount.failed else f"none of {asked} writes was answered"
@@ -215,9 +238,12 @@ class Run(Store):
             end = self.hooks.ends["read"]
             self.notes.append(f"nothing could be read {when}: {end}")
             self.is_unread = end.status is None
+        self.is_answered = found is not None
         checked = await self._check_all(acked) if "check" in self.hooks.names else {}
         if checked and set(acked) - dict(found or ()).keys():
-            await self.clients.read()  # it has the last word, and may have lagged
+            again = await self.clients.read()  # it has the last word, and may have lagged
+            self.is_answered |= again is not None
+            self.stages.end("reading")
         self.notes += [f"at the end {text}" for text in self.waiting()]
         runs = self.up | self.gone
         self.down = [name for number, name in enumerate(self.names) if number not in runs]
@@ -229,6 +255,7 @@ class Run(Store):
             async with asyncio.timeout(self.hooks.limit):
                 while self.waiting():
                     await asyncio.sleep(AGAIN)
+        self.stages.end("until all were back")
         self.show(f"asks each process for {len(keys)} records")
         Random(self.words.seed).shuffle(keys)
         numbers = [number for number in range(len(self.names)) if self.clients.is_whole(number)]
@@ -239,6 +266,7 @@ class Run(Store):
                 text = f"answered for {len(found)} of {len(keys)} records"
                 text += f" in at most {self.clients.patience(len(keys)):g} s, not for the others"
                 self.notes.append(f"at the end `check` of {self.names[number]} {text}")
+        self.stages.end("asking each process")
         return checked
 
     async def _judge(self, left: Left) -> None:
@@ -329,6 +357,11 @@ class Run(Store):
             partitions=self.partitions,
             failed={it: errors[it] for it in failed if errors[it]},
             said=self.hooks.said_by_write(),
+            orders=self.made,
+            early=self.early,
+            is_unread=not self.is_answered,
+            cuts=[cut for _, cut in self.cuts] if self.words.disks else None,
+            damaged=len(self.damages.past) if self.words.damage else None,
         )
 
     def _cases(self, left: Left) -> list[dict[str, Any]]:

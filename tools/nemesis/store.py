@@ -8,6 +8,7 @@ import sys
 import tempfile
 from argparse import Namespace
 from asyncio.subprocess import DEVNULL, Process
+from collections import deque
 from collections.abc import AsyncIterator, Collection, Sequence
 from contextlib import asynccontextmanager, suppress
 from pathlib import Path
@@ -19,7 +20,7 @@ from faultyard.plans import Order
 
 from . import HOOK, USAGE, Fault, alone, clock, clock_ns, say
 from .alone import OWN
-from .crashes import Crashes, end_of_log, in_words
+from .crashes import ROUNDS, Crashes, end_of_log, in_words
 from .damage import Damage
 from .disks import Cut, disks_of
 from .elsewhere import Elsewhere, Life, Partitions, refused
@@ -367,6 +368,7 @@ class Store(Harness):
         """Runs a process until it ends by itself, or was observed with a damaged disk."""
         with (self.words.out / f"{self.names[number]}.log").open("ab") as log:
             begin, files = log.tell(), {"stdin": DEVNULL, "stdout": log, "stderr": log}
+            recent = deque([begin], maxlen=ROUNDS)  # where its log ended at the last looks
             self._began[number] = clock()
             self.damages.started(number)
             async with self._running(number, files) as process:
@@ -382,8 +384,10 @@ class Store(Harness):
                         return
                     await self._ask_after(number, process)
                     self._may_stay(number, process)
+                    recent.append(os.fstat(log.fileno()).st_size)
                     await asyncio.sleep(AGAIN)
         assert process.returncode is not None  # or it would go on
+        begin = recent[0] if number in self.up else begin
         self._end_by_itself(number, process.returncode, begin)
         await asyncio.sleep(self.crashes[number].pause())
 

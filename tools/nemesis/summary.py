@@ -1,13 +1,18 @@
 """What a run comes to, in lines for people, and as the status of the tool."""
 from collections.abc import Iterator, Mapping, Sequence
 from dataclasses import dataclass, field
+from typing import NamedTuple
 
 from faultyard.verdicts import Judged, Linear, Verdict
 
-from . import DAMAGED, HOOK, LOST, MISSING, NONE_LOST, NOT_LINEARIZABLE, STALE, UNREADABLE, WRONG
+from . import DAMAGED, HOOK, LITTLE, LONG, LOST, MISSING, NONE_LOST, NOT_LINEARIZABLE, STALE
+from . import UNREAD, UNREADABLE, UNTORN, WRONG
+from .disks import Cut
 
 FEW = 100  # acknowledged writes: with fewer a run says little
-MILD = "tested little: unguarded, and nothing was lost: --plan attrition destroys more"
+# Controls that have to lose records.
+MILD = "unguarded, and nothing was lost: --plan attrition destroys more"
+DEAF = "the disks were deaf, and nothing was lost: only a power cut of all that have it takes it"
 QUIET = 1.0  # seconds without an acknowledgement that count as a time without writes
 
 
@@ -22,25 +27,78 @@ class Amount:
     partitions: int = 0
     failed: Mapping[str, int] = field(default_factory=dict)  # writes that weren't acknowledged
     said: tuple[str, int] = ("", 0)  # what `write` said most often, and how often
+    orders: int = 0
+    early: int = 0  # of them, before all were up and whole again
+    is_unread: bool = False  # whether `read` told nothing at the end
+    cuts: Sequence[Cut] | None = None  # of power; None without disks
+    damaged: int | None = None  # disks; None without --damage
 
 
-def tested_little(amount: Amount, is_control: bool = False) -> list[str]:
-    """Why a run says little. One of partitions needn't destroy anything, and a control that lost
-    records needn't heal."""
-    quiet = [pause for pause in amount.pauses if pause >= QUIET]
-    seconds, idle, lines = sum(amount.pauses), sum(quiet), []
-    if is_few := amount.acked < FEW:
-        lines.append(f"{amount.acked} writes were acknowledged, fewer than {FEW}")
-    if is_idle := idle > seconds / 2:
-        gaps = f"in {len(quiet)} gap{'s' * (len(quiet) > 1)} of a second or more"
-        lines.append(f"for {idle:.1f} of {seconds:.1f} seconds no write was acknowledged, {gaps}")
-    if amount.failed and (is_few or is_idle):
-        lines.append(failures(amount))
+class Untested(NamedTuple):
+    """What a run didn't test, and how the tool ends for it with --strict."""
+
+    text: str
+    status: int = LITTLE
+
+    def __str__(self) -> str:
+        return f"tested little: {self.text}"
+
+
+def untested(amount: Amount, controls: Sequence[str], is_lost: bool) -> Iterator[Untested]:
+    """What a run didn't test.
+
+    One of partitions needn't destroy anything. `controls` says of a run that has to lose records
+    that it didn't, and `is_lost` whether some are lost, or may be; then none needs to be healed.
+    """
+    yield from map(Untested, idle(amount))
     if not amount.destroyed and not amount.partitions:
-        lines.append("nothing was destroyed")
-    elif amount.destroyed and not amount.healed and not is_control:
-        lines.append("nothing that was destroyed was healed")
-    return [f"tested little: {line}" for line in lines]
+        yield Untested("nothing was destroyed")
+    elif amount.destroyed and not amount.healed and not (controls and is_lost):
+        yield Untested("nothing that was destroyed was healed")
+    if amount.is_unread and not is_lost:
+        told = "no `read` was answered at the end: `check` or disks alone say that all is kept"
+        yield Untested(told, UNREAD)
+    yield from (Untested(text, UNTORN) for text in untorn(amount.cuts))
+    if amount.damaged == 0:
+        yield Untested("no disk was damaged")
+    yield from map(Untested, () if is_lost else controls)
+
+
+def idle(amount: Amount) -> Iterator[str]:
+    """Why too few writes were acknowledged, or too seldom."""
+    quiet = [pause for pause in amount.pauses if pause >= QUIET]
+    seconds, without = sum(amount.pauses), sum(quiet)
+    if is_few := amount.acked < FEW:
+        yield f"{amount.acked} writes were acknowledged, fewer than {FEW}"
+    if is_idle := without > seconds / 2:
+        gaps = f"in {len(quiet)} gap{'s' * (len(quiet) > 1)} of a second or more"
+        yield f"for {without:.1f} of {seconds:.1f} seconds no write was acknowledged, {gaps}"
+    if is_idle and amount.early > amount.orders / 2:
+        came = f"{amount.early} of {amount.orders} orders came before all were up and whole again"
+        yield f"{came}: --when-whole waits for that, and --pauses are longer"
+    if amount.failed and (is_few or is_idle):
+        yield failures(amount)
+
+
+def untorn(cuts: Sequence[Cut] | None) -> Iterator[str]:
+    """Why power cuts took nothing. The disks of the kernel don't tell."""
+    total = sum(cuts or (), Cut(0, 0))
+    if cuts is None:
+        return
+    if not cuts:
+        yield "no power was cut"
+    elif total.unsynced == 0:
+        yield f"nothing was unsynced at any of {len(cuts)} power cuts"
+    elif total.survived is not None and total.survived == total.unsynced:
+        kept = f"{len(cuts)} power cuts kept all {total.unsynced} unsynced items"
+        yield f"{kept}: with --tear none they keep none"
+
+
+def strictly(status: int, found: Sequence[Untested], is_long: bool) -> int:
+    """How the tool ends with --strict, where it would have ended so."""
+    if status != NONE_LOST:
+        return status
+    return min((it.status for it in found), default=LONG if is_long else NONE_LOST)
 
 
 def failures(amount: Amount) -> str:

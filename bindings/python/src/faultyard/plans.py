@@ -104,8 +104,8 @@ class Draw(NamedTuple):
     weights: Mapping[Kind, float] = WEIGHTS
     """How often each kind is drawn; leave out those that aren't granted."""
     pauses: Optional[Sequence[float]] = None
-    """The pauses of `mixed`, `blackout` and `partition`, one of which is drawn each time; else
-    `PAUSES`, `BLACKOUTS` and `PARTITIONS`."""
+    """The pauses of a plan, one of which is drawn each time: of `swizzle` those between its rounds.
+    Else each plan has its own, as `PAUSES`."""
 
     def mixed(self) -> Iterator[Order]:
         """Any kind of a random process, machine or zone, after a random pause."""
@@ -117,7 +117,7 @@ class Draw(NamedTuple):
         """Destroys a process or machine after the other, faster than they are filled again."""
         kinds = [kind for kind in Kind if kind.empties_disk]
         while True:
-            yield self._any(kinds, [Key.PROCESS, Key.MACHINE], ATTRITIONS)
+            yield self._any(kinds, [Key.PROCESS, Key.MACHINE], self.pauses or ATTRITIONS)
 
     def _any(self, kinds: Sequence[Kind], keys: Sequence[Key], pauses: Sequence[float]) -> Order:
         """One of those kinds, by their weights; the first where none has any."""
@@ -134,8 +134,9 @@ class Draw(NamedTuple):
         while True:
             places = self.dice.sample(self.places, self.dice.randint(1, len(self.places)))
             ends = self.dice.sample(range(len(places)), len(places))
+            between = self.dice.choice(self.pauses) if self.pauses else BETWEEN_SWIZZLES
             for turn, (place, end) in enumerate(zip(places, ends)):
-                pause = SWIZZLED if turn else BETWEEN_SWIZZLES
+                pause = SWIZZLED if turn else between
                 clogged = SWIZZLED * (len(places) - turn + end)
                 yield Order(kind, Key.PROCESS, place[Key.PROCESS], pause, clogged)
 
@@ -160,7 +161,8 @@ class Draw(NamedTuple):
         """Restarts each in turn; then all again, with a harder kind."""
         for kind in cycle([Kind.REBOOT_PROCESS, Kind.REBOOT, Kind.REBOOT_AND_DELETE]):
             for place in self.places:
-                yield Order(kind, Key.PROCESS, place[Key.PROCESS], ROLLED)
+                pause = self.dice.choice(self.pauses) if self.pauses else ROLLED
+                yield Order(kind, Key.PROCESS, place[Key.PROCESS], pause)
 
 
 Ask = Callable[[int], Sequence[Optional[Mapping[str, Mapping[str, Any]]]]]
@@ -181,7 +183,7 @@ class Simulated(NamedTuple):
     places: Sequence[Mapping[Key, str]]
     granted: Sequence[Kind]
     pauses: Optional[Sequence[float]] = None
-    """The pauses of `mixed`; else `PAUSES`."""
+    """The pauses that are drawn from; of `swizzle` those between its rounds. Else the plan's own."""
 
     def orders(self) -> Iterator[Order]:
         """The orders, without an end if the actor has one that can be made in `MOST_IDLE` turns."""
@@ -219,8 +221,9 @@ class Simulated(NamedTuple):
         if self.plan is Plan.MIXED:
             return self.dice.choice(self.pauses or PAUSES)
         if self.plan is Plan.ATTRITION:
-            return self.dice.choice(ATTRITIONS)
+            return self.dice.choice(self.pauses or ATTRITIONS)
         if self.plan is Plan.ROLLING:
-            return ROLLED
-        begins = last is None or (last.frees and not order.frees)
-        return BETWEEN_SWIZZLES if begins else SWIZZLED
+            return self.dice.choice(self.pauses) if self.pauses else ROLLED
+        if last is not None and not (last.frees and not order.frees):
+            return SWIZZLED
+        return self.dice.choice(self.pauses) if self.pauses else BETWEEN_SWIZZLES
