@@ -1,4 +1,5 @@
 pub mod Acknowledging
+pub mod AskedNow
 pub mod ByPlace
 pub mod CopyTo
 pub mod Deliverable

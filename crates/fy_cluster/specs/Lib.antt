@@ -10,6 +10,7 @@ pub mod Stores
 pub mod Execution
 pub mod Standing
 pub mod Sights
+pub mod Asked
 pub use Rattle.fy_locality.specs.Locality
 pub mod Needs
 pub mod Trail

@@ -301,6 +301,13 @@ impl Cluster {
         self.state.sight()
     }
 
+    /// The state behind the journal, which may be asked without being changed.
+    pub fn asked_state(&self) -> &ClusterState
+        ensures { result.now ≡ self.now }
+    {
+        &self.state
+    }
+
     /// Whatever acts were made so far, every acknowledged record has a synced copy on an
     /// undestroyed member, and all else holds that legal journals keep.
     pub fn survives(&self)

@@ -8,15 +8,17 @@ ghost use Rattle.fy_cluster.specs.History.{destroyed, left, ack_of, acked, keepe
 ghost use Rattle.fy_cluster.specs.declared.fault.Fault.TheVariants.{JournalFull};
 ghost use Rattle.fy_cluster.specs.Survival.{Survives};
 ghost use Rattle.fy_cluster.specs.Execution.{history_of, opened, replied, entered, next_entry};
-ghost use Rattle.fy_acts.specs.declared.act.Act.TheVariants.{Kill};
+ghost use Rattle.fy_acts.specs.declared.act.Act.TheVariants.{Clog, Kill};
 ghost use Rattle.fy_cluster.specs.Sights.{IsLeastKeeper, Sees, clogged_in, status_of, needed_of, up_in};
+ghost use Rattle.fy_cluster.specs.Asked.{time_in, clog_end_in, protected_in, grants_in, team_in, holds_in};
 
 use crate::machine::Machine;
 use crate::trail::Trail;
 use crate::{Config, Fault, Sight, Status, laws};
 use fy_acts::{Act, Entry, Refusal, Reply};
-use fy_decide::{judge, judge_process};
-use fy_kinds::{KillOrder, Kind};
+use fy_decide::{judge, judge_clog, judge_process};
+use fy_grants::Grant;
+use fy_kinds::{KillOrder, Kind, KindSet, Target};
 use fy_locality::{ProcId, ProcSet};
 use fy_net::Body;
 use std::alloc::{AllocError, Global};
@@ -320,6 +322,72 @@ impl ClusterState {
         ensures { Sees self.now.setup (history_of self.now) result }
     {
         self.machine.sight()
+    }
+
+    /// The reply that a clog of a target by the actor with this number would get now, for however
+    /// many ticks. It enters nothing, and doesn't allocate.
+    pub fn asked_clog(&self, by: u32, target: &Target) -> Reply
+        ensures { (ticks : ℕ) → result ≡ replied self.now by (Clog target.now ticks) }
+    {
+        let Some(_) = self.config.role(by) else {
+            return Reply::No(fy_acts::Refusal::Stranger);
+        };
+        let machine = &self.machine;
+        let rule = judge_clog(&machine.dead, &machine.book, self.config.map(), by, target);
+        Reply::Ruled { rule }
+    }
+
+    /// The time. Doesn't allocate.
+    pub fn asked_clock(&self) -> u64
+        ensures { result ≡ time_in self.now }
+    {
+        self.machine.asked_clock()
+    }
+
+    /// Until when the clogs of a process that is there last. It is clogged where that is later than
+    /// now. Doesn't allocate.
+    pub fn asked_clog_end(&self, process: ProcId) -> u64
+        requires { process.0 < length self.now.setup.processes }
+        ensures { result ≡ clog_end_in self.now process.0 }
+    {
+        self.machine.asked_clog_end(process)
+    }
+
+    /// The kinds from which a process that is there is protected. Doesn't allocate.
+    pub fn asked_protections(&self, process: ProcId) -> KindSet
+        requires { process.0 < length self.now.setup.processes }
+        ensures { result ≡ protected_in self.now process.0 }
+    {
+        self.machine.asked_protections(process)
+    }
+
+    /// The grants of an actor, in the order in which they were given; an actor that isn't there has
+    /// none. Doesn't allocate.
+    pub fn asked_grants(&self, actor: u32) -> &[Grant]
+        ensures { result.now ≡ grants_in self.now actor }
+    {
+        self.machine.asked_grants(actor)
+    }
+
+    /// How many acts were entered.
+    pub fn asked_entries(&self) -> usize
+        ensures { result ≡ length self.now.journal }
+    {
+        self.trail.len()
+    }
+
+    /// The number of a record's team; `None` where there is no such record. Doesn't allocate.
+    pub fn asked_team(&self, rec: u32) -> Option<u32>
+        ensures { result ≡ team_in self.now rec }
+    {
+        self.machine.asked_team(rec)
+    }
+
+    /// The processes that have a record synced. Doesn't allocate.
+    pub fn asked_holders(&self, rec: u32) -> ProcSet
+        ensures { (p : ℕ) → sets.contains result p ≡ holds_in self.now rec p }
+    {
+        self.machine.asked_holders(rec)
     }
 
     /// Whatever acts were made so far, every acknowledged record has a synced copy on an

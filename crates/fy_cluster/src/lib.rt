@@ -3,6 +3,7 @@
 #![tactic(auto)]
 
 mod acts;
+mod asked;
 mod clock;
 mod clogs;
 mod cluster;

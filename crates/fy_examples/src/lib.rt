@@ -7,6 +7,8 @@ mod actors;
 #[cfg(test)]
 mod acts;
 #[cfg(test)]
+mod asked;
+#[cfg(test)]
 mod audit;
 #[cfg(test)]
 mod by_number;

@@ -12,6 +12,7 @@ fn a_clog_holds_a_message_up(rt: HostRuntime) -> Result<(), Fail> {
     assert_eq!(rt; net.send(body), 0);
     net.clog(to, 5);
     assert_eq!(rt; net.take(0), Err(NetFault::Clogged));
+    assert_eq!(rt; net.asked_clog_end(to), 5);
     net.unclog(to);
     assert_eq!(rt; (net.clogged(to), net.take(0)), (false, Ok(body)));
     Ok(())

@@ -1,5 +1,5 @@
 //! The network: its messages stand in a pool, in which each call finds its message at once.
-ghost use Rattle.std.specs.Prelude.{◌≡◌, ◌+◌, ◌^◌, ◌<◌, ◌≤◌, ℕ, max, length, Some, None, IfOk, IfErr, IfSome, OnOk, OnErr, IsOk, IsOkAnd};
+ghost use Rattle.std.specs.Prelude.{◌≡◌, ◌+◌, ◌^◌, ◌<◌, ◌≤◌, ℕ, max, length, slice_index, Some, None, IfOk, IfErr, IfSome, OnOk, OnErr, IsOk, IsOkAnd};
 ghost use Rattle.std.specs.List.{All};
 ghost use Rattle.std.specs.FinSet as sets;
 ghost use Rattle.fy_locality.specs.declared.TheConstants.{MOST_PROCESSES};
@@ -200,6 +200,14 @@ impl Net {
         ensures { result ≡ is_clogged self.now p.0 }
     {
         clog_lasts(&self.until, self.clock, p)
+    }
+
+    /// Until when the clogs of a process last. It is clogged where that is later than now.
+    pub fn asked_clog_end(&self, p: ProcId) -> u64
+        requires { p.0 < length self.now.until }
+        ensures { result ≡ slice_index self.now.until p.0 }
+    {
+        self.until[p.0 as usize]
     }
 
     /// The processes that are clogged.

@@ -1,0 +1,3 @@
+pub mod Bearings
+pub mod Told
+pub use Rattle.fy_locality.specs.Locality
