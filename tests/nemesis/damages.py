@@ -11,7 +11,7 @@ from lab import CLUSTER, Case, Ran, ran
 from lab import HOOKS as HOOKS_OF_NONE
 from nemesis import damage, main
 from nemesis.damage import NOTICED, Damage, Pattern
-from toy import Alone, Call, Hook, Leads, Mode, Spreads, Sums, Toy, ends, hangs
+from toy import Alone, Call, Hook, Leads, Mode, Partial, Spreads, Sums, Toy, ends, hangs
 
 COUNT, BATCH = max(1, int(os.environ.get("NEMESIS_SEEDS", 60)) // 5), 4
 HOOKS = "start ready whole write read check salvage"
@@ -293,6 +293,18 @@ class Kinds(Case):
                     "the store lost it; the disk of p1 was damaged by entry 0", line["fault"]
                 )
                 self.assertTrue(line["fault"].endswith(f"and then it lacked {told['lacked']}"))
+
+    def test_a_damage_is_told_of_where_it_is_unknown_who_is_wrong(self) -> None:
+        """`read` lacks what `check` tells: as of a store that was split by what a disk forgot."""
+        it = self.damaged("bits", Sums("cut"), Alone(), Partial(5), status=1)
+        (told,) = it.events("observed")
+        lines = [its for its in it.lines("records.jsonl") if its["verdict"] == "lost"]
+        self.assertGreater(len(lines), 0)
+        for line in lines:
+            self.assertRegex(
+                line["fault"], r"^`read` lacks it, and .* told it by `check`: .* wrong;"
+            )
+            self.assertTrue(line["fault"].endswith(f"and then it lacked {told['lacked']}"))
 
     def test_a_process_that_never_runs_is_told(self) -> None:
         async def start(call: Call) -> int:

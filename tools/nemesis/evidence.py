@@ -152,7 +152,7 @@ class Case:
                 return self._by_store() + self._after_damage()
             case {"store_or_whole": heals}:
                 return _too_early(self.course, [(number, entry) for number, entry in heals])
-        return self._told_apart()
+        return self._told_apart() + self._after_damage()
 
     def _beyond(self, entry: int) -> str:
         """Where the guarantee had ended."""
