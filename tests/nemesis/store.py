@@ -10,6 +10,7 @@ STORE_FAULT in the environment plants a fault:
 
     unsynced    a record is acknowledged up to half a second before it is written
     lazy        a record is given to the kernel, and never synced: only a power cut loses it
+    full        a record is acknowledged though the disk is full, and doesn't have it
     forgetful   an emptied server is said to be whole at once, and nothing is copied to it
     shy         a server takes its time, and tells of a record only where it is asked for it again
     late        a server tells of a record half a second after it has it
@@ -25,6 +26,7 @@ STORE_FAULT in the environment plants a fault:
     encoded     the log doesn't have the records as they were written
     crash       server 0 ends by itself, two seconds after each start
 """
+import errno
 import os
 import random
 import socket
@@ -111,9 +113,13 @@ class Server(socketserver.ThreadingTCPServer):
                 self.sync()
 
     def sync(self) -> None:
-        self.log.flush()
-        if FAULT != "lazy":
-            os.fdatasync(self.log.fileno())
+        try:
+            self.log.flush()
+            if FAULT != "lazy":
+                os.fdatasync(self.log.fileno())
+        except OSError as fault:
+            if FAULT != "full" or fault.errno != errno.ENOSPC:
+                raise
 
     def sync_late(self) -> None:
         while True:

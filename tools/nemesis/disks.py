@@ -132,6 +132,10 @@ class Disks(ABC):
         """Has a part of a file be unreadable, on a disk of ours."""
         raise Fault(TOOL, "a disk of the kernel has no bad sectors")
 
+    async def order(self, number: int, *words: object) -> None:
+        """Has a disk of ours be slow, or full, or neither."""
+        raise Fault(TOOL, "a disk of the kernel isn't slow or full by an order")
+
     def remove(self, number: int) -> None:
         """Takes away what the run's folder has of a disk."""
         kept = self.kept(number)
@@ -152,12 +156,27 @@ class Lossy(Disks):
         super().__init__(out, count)
         self._program, self._words = program, ["--deaf"] if is_deaf else []
         self._serving: dict[int, Popen[bytes]] = {}
+        # What each was ordered to be last, by the order's name.
+        self._ordered: list[dict[object, tuple[object, ...]]] = [{} for _ in range(count)]
 
     def kept(self, number: int) -> Path:
         return self._out / f"{number}.disk"
 
     async def spoil(self, number: int, file: str, place: int, length: int) -> None:
         await done(self._program, "fail", self.folder(number) / file, place, length)
+
+    async def order(self, number: int, *words: object) -> None:
+        """It is so behind a power cut too. A disk that takes its place is neither."""
+
+        async def one() -> Cut:
+            self._ordered[number][words[0]] = words
+            await self._give(number, *words)
+            return Cut()
+
+        await self._begun(number, one())
+
+    async def _give(self, number: int, name: object, *more: object) -> None:
+        await done(self._program, name, self.folder(number), *more)
 
     async def _insert(self, number: int) -> None:
         folder, disk = self.folder(number), self.kept(number)
@@ -173,6 +192,8 @@ class Lossy(Disks):
             pass
         if not os.path.ismount(folder):
             raise Fault(TOOL, f"no disk is mounted at {folder}; {log.name} may say why")
+        for words in self._ordered[number].values():
+            await self._give(number, *words)
 
     async def _cut(self, number: int, tear: int) -> Cut:
         said = await done(self._program, "cut", self.folder(number), tear)
@@ -190,6 +211,7 @@ class Lossy(Disks):
             serving.kill()
             await asyncio.to_thread(serving.wait)
             LIBC.umount2(bytes(self.folder(number)), MNT_DETACH)
+        self._ordered[number].clear()
         self.remove(number)
 
 

@@ -21,7 +21,7 @@ from faultyard.verdicts import Verdict
 from config_check.main import explain
 from keeper import adopt_orphans, end_children
 
-from . import alone
+from . import alone, disturbances
 from . import GUARD, NONE_LOST, TOOL, USAGE, Fault, say, summary
 from . import __doc__ as about
 from .edn import Convert
@@ -39,7 +39,9 @@ from .run import Run
 from .summary import DEAF, MILD, Untested, besides, closing, strictly, untested
 
 # The words that say how orders are drawn, each with the plans that it goes with.
-DRAWN = {"kinds": ("mixed", "attrition", "swizzle"), "pauses": PLANS, "when_whole": PLANS}
+EVERY = (*PLANS, *disturbances.FORMS)
+DRAWN = {"kinds": ("mixed", "attrition", "swizzle"), "pauses": EVERY, "when_whole": EVERY}
+DRAWN["beside"] = EVERY
 LEAST = {"seed": 0, "seconds": 0, "writers": 1, "readers": 0, "registers": 0, "hook_timeout": 0.1}
 LEAST |= {"damage_seconds": 0}
 SHOWN = 5  # cases that are told on the terminal; records.jsonl has all
@@ -82,7 +84,10 @@ def parsed(given: Sequence[str] | None = None) -> argparse.Namespace:
         default=60.0,
         help="how long records are written, once all are ready (60)",
     )
-    add("--plan", choices=PLANS, default="mixed", help="how orders are drawn (mixed)")
+    text = "how orders are drawn (mixed)"
+    add("--plan", choices=EVERY, default="mixed", help=text)
+    text = f"draw disturbances beside the orders of a plan: {', '.join(disturbances.BESIDE)}"
+    add("--beside", type=disturbances.kinds_beside, default=[], metavar="PLANS", help=text)
     kinds = ",".join(f"{it:g}" for it in KINDS)
     text = f"how often each kind that is granted is drawn, from the mildest; Clog last ({kinds})"
     add("--kinds", type=weights, metavar="WEIGHTS", help=text)
@@ -154,8 +159,10 @@ def parsed(given: Sequence[str] | None = None) -> argparse.Namespace:
         it.error("--deaf-disks needs --disks")
     if why := undamaged(words):
         it.error(why)
-    if words.plan == "partition" and not words.net:
+    if "partition" in (words.plan, *words.beside) and not words.net:
         it.error("--plan partition needs --net")
+    if why := disturbances.refused(words):
+        it.error(why)
     if words.clog != "both" and not words.net:
         it.error("--clog needs --net")
     for path in (words.config, words.hooks, words.replay, words.tokens):
@@ -402,6 +409,7 @@ def report(run: Run, is_read: bool = True) -> int:
     words, judged, checked = run.words, run.judged, write_files(run)
     title = f"seed {words.seed}"
     title += f", {run.partitions} partitions" if run.partitions else ""
+    title += f", {run.disturbances.count} disturbances" if run.disturbances.count else ""
     lines = run.summary(title) + run.damages.summed() + run.notes + run.power() + after_cuts(run)
     lines += run.ended_by_themselves()
     lacks = not_tested(run) if is_read and not words.check_hooks else []

@@ -270,6 +270,8 @@ class Damages:
         store = self._store
         if number not in store.up & store.ledger.able - store.clogged:
             return
+        if store.disturbances.of(number):  # a copy might take long, with the process stopped
+            return
         to = self._room(number) / f"{store.ledger.now():.3f}"
         to.parent.mkdir(parents=True, exist_ok=True)
         store.signal(number, signal.SIGSTOP)

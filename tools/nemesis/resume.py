@@ -19,6 +19,7 @@ from .attach import ready
 from .clients import number_of
 from .crashes import Crashes
 from .disks import Cut
+from .disturbances import Disturbance
 from .orders import Timed
 
 if TYPE_CHECKING:
@@ -224,6 +225,8 @@ def deeds(events: Iterable[Event], by: int) -> Iterator[tuple[str, ...]]:
         match event["what"]:
             case "partition":
                 yield event["shape"], str(event["cuts"])
+            case "disturbance":
+                yield event["kind"], str(event["processes"])
             case "order" if event["by"] == by:
                 yield event["order"], event["key"], event["value"]
             case "unclog" if event["by"] == by and event.get("ordered"):
@@ -231,8 +234,10 @@ def deeds(events: Iterable[Event], by: int) -> Iterator[tuple[str, ...]]:
                 yield "unclog", target["key"], target["value"]
 
 
-def deed_of(order: Order) -> tuple[str, ...]:
+def deed_of(order: Order | Disturbance) -> tuple[str, ...]:
     """An order in the same words."""
+    if isinstance(order, Disturbance):
+        return order.kind, str([*order.processes])
     if order.cuts:
         return order.value, str([[*it] for it in order.cuts])
     name = "unclog" if order.frees else order.kind.value
@@ -286,6 +291,8 @@ def recall_counts(run: "Run", past: Past) -> None:
                 value = event["value"]
             case "partition":
                 run.partitions += 1
+            case "disturbance":
+                run.disturbances.count += 1
             case "cut":
                 run.cuts.append((value, Cut(event["survived"], event["unsynced"])))
             case "ended" if "damaged" not in event:

@@ -18,6 +18,7 @@ from . import HOOK, USAGE, Fault
 from .attach import attach, leave, leave_in_haste
 from .checks import HookCheck
 from .clients import Clients, Pairs, pairs
+from .disturbances import FORMS, Disturbance
 from .evidence import MORE, Case, Course, Disk, Left, told_alone, unwritten, unwritten_line
 from .machine import Machine
 from .orders import Orders, Timed
@@ -186,7 +187,9 @@ class Run(Store):
                 if self.ledger.now() >= until:
                     return
             self.made, self.early = self.made + 1, self.early + bool(self.waiting())
-            if order.cuts:
+            if isinstance(order, Disturbance):
+                await self.disturbances.begin(order)
+            elif order.cuts:
                 await self.partition(order)
             elif self.targets(order.key, order.value):  # who is gone can't be struck again
                 await self.obey(self.fault, order.act())
@@ -354,15 +357,19 @@ class Run(Store):
             pauses=ledger.pauses(),
             destroyed=len(ledger.losses),
             healed=len(ledger.healed),
-            partitions=self.partitions,
+            partitions=self.partitions + self.disturbances.count,
             failed={it: errors[it] for it in failed if errors[it]},
             said=self.hooks.said_by_write(),
             orders=self.made,
             early=self.early,
             is_unread=not self.is_answered,
-            cuts=[cut for _, cut in self.cuts] if self.words.disks else None,
+            cuts=[cut for _, cut in self.cuts] if self._cuts_power() else None,
             damaged=len(self.damages.past) if self.words.damage else None,
         )
+
+    def _cuts_power(self) -> bool:
+        """Whether the run's orders may cut power."""
+        return self.words.disks is not None and self.words.plan not in FORMS
 
     def _cases(self, left: Left) -> list[dict[str, Any]]:
         """The evidence of all records that aren't kept, and of all that was never written."""

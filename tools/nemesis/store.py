@@ -9,7 +9,7 @@ import tempfile
 from argparse import Namespace
 from asyncio.subprocess import DEVNULL, Process
 from collections import deque
-from collections.abc import AsyncIterator, Collection, Sequence
+from collections.abc import AsyncIterator, Awaitable, Callable, Collection, Sequence
 from contextlib import asynccontextmanager, suppress
 from pathlib import Path
 from typing import Any, cast
@@ -23,6 +23,7 @@ from .alone import OWN
 from .crashes import ROUNDS, Crashes, end_of_log, in_words
 from .damage import Damage
 from .disks import Cut, disks_of
+from .disturbances import Disturbances
 from .elsewhere import Elsewhere, Life, Partitions, refused
 from .hooks import End, Hooks
 from .machine import Machine
@@ -60,6 +61,7 @@ class Store(Harness):
         self.hooks.before = self._before
         self.elsewhere = Elsewhere(self.hooks)
         self.damages = Damages(self)
+        self.disturbances = Disturbances(self)
         self._keeping: dict[int, asyncio.Task[None]] = {}  # each brings a process back
         self._started: dict[int, Process] = {}
         self._began: dict[int, float] = {}  # when each was started last
@@ -229,7 +231,7 @@ class Store(Harness):
             self.joined.pop(number, None)
             self.not_whole.pop(number, None)
             is_over = self.damages.conclude(number)  # who was damaged before is emptied now
-            if number in damaged and await self.damages.strike(number):
+            if number in damaged and await self._is_damaged(number):
                 continue
             if emptied or is_over:
                 await self._empty(number)
@@ -237,6 +239,11 @@ class Store(Harness):
         # an election, perhaps as the primary that it was.
         for number in processes:
             self._keeping[number] = self.tasks.create_task(self._keep(number))
+
+    async def _is_damaged(self, number: int) -> bool:
+        """Damages a disk, which has the room for it, if that can be done."""
+        await self.disturbances.spare(number)
+        return await self.damages.strike(number)
 
     @asynccontextmanager
     async def held_down(self, number: int) -> AsyncIterator[None]:
@@ -336,14 +343,18 @@ class Store(Harness):
             self.note("partition", shape=order.value, cuts=order.cuts, clogged=order.clogged)
             self.show(f"partition {order.value}: {self._sides(order)}, {order.clogged:g} s")
             await self.net.cut(order.cuts, True)
-        self._clogs.append(self.spawn(self._rejoin(order)))
+        net = self.net
+        self.lasting(order.clogged, lambda: net.cut(order.cuts, False))
 
-    async def _rejoin(self, order: Order) -> None:
-        assert self.net
+    def lasting(self, seconds: float, end: Callable[[], Awaitable[None]]) -> None:
+        """Has what was begun end after so many seconds, and no later than the orders do."""
+        self._clogs.append(self.spawn(self._end_later(seconds, end)))
+
+    async def _end_later(self, seconds: float, end: Callable[[], Awaitable[None]]) -> None:
         with suppress(TimeoutError):
-            async with asyncio.timeout(order.clogged):
+            async with asyncio.timeout(seconds):
                 await self._over.wait()
-        await self.net.cut(order.cuts, False)
+        await end()
 
     def _sides(self, order: Order) -> str:
         """Who is unheard by whom."""

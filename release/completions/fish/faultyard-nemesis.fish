@@ -3,8 +3,11 @@
 complete -c faultyard-nemesis -s h -l help -d "Print help"
 complete -c faultyard-nemesis -l seed -x -d "The orders are drawn from this seed"
 complete -c faultyard-nemesis -l seconds -x -d "How long records are written"
-complete -c faultyard-nemesis -l plan -x -a "mixed attrition swizzle rolling blackout partition" \
+complete -c faultyard-nemesis -l plan -x \
+    -a "mixed attrition swizzle rolling blackout partition slow-disk full-disk" \
     -d "How orders are drawn"
+complete -c faultyard-nemesis -l beside -x -a "partition slow-disk full-disk" \
+    -d "What is drawn beside, and destroys nothing"
 complete -c faultyard-nemesis -l kinds -x -d "How often each kind is drawn"
 complete -c faultyard-nemesis -l pauses -x -d "Pauses between orders"
 complete -c faultyard-nemesis -l when-whole -d "Orders wait until all are whole"
