@@ -44,11 +44,45 @@ func readAsk(ask Ask) (asked, Fault) {
 	if !onceNames.MatchString(key) {
 		return asked{}, OnceName
 	}
-	line, err := json.Marshal(members)
+	line, err := ByFirst(members)
 	if err != nil {
 		return asked{}, Syntax
 	}
 	return asked{line: line, once: string(members["by"]) + " " + key}, ""
+}
+
+// places are those of the members of an act in a line that the guard reads in one pass. Any other
+// member comes behind them, for the guard to refuse.
+var places = map[string]int{"by": -2, "act": -1}
+
+// ByFirst is the line that has these members, the actor before the act.
+func ByFirst(members map[string]json.RawMessage) ([]byte, error) {
+	names := make([]string, 0, len(members))
+	for name := range members {
+		names = append(names, name)
+	}
+	sort.Slice(names, func(i, j int) bool {
+		one, other := places[names[i]], places[names[j]]
+		return one < other || one == other && names[i] < names[j]
+	})
+	var line bytes.Buffer
+	line.WriteByte('{')
+	for place, name := range names {
+		quoted, err := json.Marshal(name)
+		if err != nil {
+			return nil, err
+		}
+		if place > 0 {
+			line.WriteByte(',')
+		}
+		line.Write(quoted)
+		line.WriteByte(':')
+		if err := json.Compact(&line, members[name]); err != nil {
+			return nil, err
+		}
+	}
+	line.WriteByte('}')
+	return line.Bytes(), nil
 }
 
 // IsOnce says whether a text may be the key of an act.

@@ -2,6 +2,7 @@ package book
 
 import (
 	"bytes"
+	"encoding/json"
 	"errors"
 	"fmt"
 	"io"
@@ -313,6 +314,23 @@ func TestAKeyIsAnsweredOnce(test *testing.T) {
 	same(test, "after a start", string(ask(book, up(1, "a")).Line), entry(0, 1))
 	same(test, "and it is counted", book.Stats().Repeated, 1)
 	_ = book.Close()
+}
+
+func TestTheActorStandsBeforeTheAct(test *testing.T) {
+	for _, row := range []struct{ body, wanted string }{
+		{`{"act":{"up":{"process":0}},"by":1}`, `{"by":1,"act":{"up":{"process":0}}}`},
+		{`{ "by": 1, "act": { "tick": "<&>" } }`, `{"by":1,"act":{"tick":"<&>"}}`},
+		{`{"z":[],"b":1,"act":2,"by":3}`, `{"by":3,"act":2,"b":1,"z":[]}`},
+		{`{"act":{}}`, `{"act":{}}`},
+		{`{}`, `{}`},
+	} {
+		var members map[string]json.RawMessage
+		if err := json.Unmarshal([]byte(row.body), &members); err != nil {
+			test.Fatal(err)
+		}
+		line, err := ByFirst(members)
+		same(test, row.body, []any{string(line), err}, []any{row.wanted, error(nil)})
+	}
 }
 
 func TestAKeyWithoutItsEntryIsTakenOut(test *testing.T) {

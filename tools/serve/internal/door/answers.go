@@ -121,7 +121,7 @@ func (web *Web) lineOf(body []byte, request *http.Request) (line []byte, status 
 		return compact.Bytes(), 0, ""
 	}
 	members["by"] = json.RawMessage(number)
-	line, err := json.Marshal(members)
+	line, err := book.ByFirst(members)
 	if err != nil {
 		return nil, http.StatusBadRequest, faultLine(book.Syntax, 1)
 	}

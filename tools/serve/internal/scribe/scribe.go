@@ -7,7 +7,8 @@ import (
 	"sync"
 )
 
-// Scribe enters acts, up to Most. It is no guard of a cluster: it bars nothing.
+// Scribe enters acts, up to Most. It is no guard of a cluster: it bars nothing, and takes those lines
+// alone that have the actor first.
 type Scribe struct {
 	Most    int
 	lock    sync.Mutex
@@ -24,9 +25,7 @@ func (its *Scribe) Act(line []byte) (entry []byte, fault string) {
 	}
 	var by int
 	if _, err := fmt.Sscanf(text, `{"by":%d,"act":{`, &by); err != nil {
-		if text, by = turned(text); text == "" {
-			return nil, "Syntax"
-		}
+		return nil, "Syntax"
 	}
 	if len(its.entries) == its.Most {
 		return nil, "JournalFull"
@@ -36,19 +35,6 @@ func (its *Scribe) Act(line []byte) (entry []byte, fault string) {
 	made := fmt.Sprintf(form, act, len(its.entries), by)
 	its.entries = append(its.entries, []byte(made))
 	return []byte(made), ""
-}
-
-// turned is a line whose members stand in the order of their names, the other way round.
-func turned(text string) (string, int) {
-	var by int
-	at := strings.LastIndex(text, `,"by":`)
-	if !strings.HasPrefix(text, `{"act":{`) || at < 0 {
-		return "", 0
-	}
-	if _, err := fmt.Sscanf(text[at:], `,"by":%d}`, &by); err != nil {
-		return "", 0
-	}
-	return fmt.Sprintf(`{"by":%d,%s}`, by, text[1:at]), by
 }
 
 // Entry is the line of an entry.
