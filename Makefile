@@ -8,12 +8,17 @@ UNPROVED := bin/unproved/faultyard
 KIT = $(dir $(shell rt doc))
 RUSTC = rustc --edition 2024 -C opt-level=3
 
+# What stands before a command that proves or builds.
+NEEDS_RT = @command -v rt > /dev/null || { echo "make $@: there is no rt, the command of the Rattle" \
+	"toolchain; see 'Building, testing, contributing' in README.md" >&2; exit 2; }
+
 .PHONY: $(shell sed -n 's/^\([a-z][a-z-]*\):.*/\1/p' Makefile)
 
 # `rt run` proves what changed, builds the program beside its crate and runs it once.
 ## proves the program with the crates that it stands on, and leaves it at `bin/faultyard`; `make`
 ## alone does so
 build:
+	$(NEEDS_RT)
 	cd crates/faultyard && rt run -- --help > /dev/null
 	mkdir -p bin
 	cp $(BUILT) bin/faultyard
@@ -26,6 +31,7 @@ help:
 ## builds the program without proofs, and shows `judge`, `run`, `check` and `simulate` on the
 ## examples
 run:
+	$(NEEDS_RT)
 	@echo "make run: builds the program without its proofs, once, as $(UNPROVED):" \
 		"some two minutes on four processors"
 	@$(MAKE) --no-print-directory --silent $(UNPROVED)
@@ -38,6 +44,7 @@ $(UNPROVED): $(shell find crates -name '*.rt' -not -path '*/out/*') crates.txt \
 # `rt lib` proves what changed.
 ## proves the C library, and leaves it at `bin/libfaultyard.a` and `bin/libfaultyard.so`
 lib:
+	$(NEEDS_RT)
 	cd crates/fy_c && rt lib > /dev/null
 	$(MAKE) --no-print-directory merged
 
@@ -69,6 +76,7 @@ merged:
 ## all that CI runs: the unit tests, every proof from nothing, all suites on the proved program and
 ## the C library, and the mutants whose function changed, or what it names
 test:
+	$(NEEDS_RT)
 	tests/suites test
 
 ## SINCE=.. runs the tests that need no proof, on the program built without proofs: all, or those that
@@ -110,6 +118,7 @@ refused-memory:
 
 ## tries every mutant again, and records those that are refused; run it before a release
 mutants:
+	$(NEEDS_RT)
 	tests/mutants/run --all --record
 
 ## runs `faultyard-nemesis` on redis, etcd, PostgreSQL, ZooKeeper and RabbitMQ, a minute guarded and
