@@ -3,11 +3,13 @@ virtual time on the toy store, with sums in its log and without."""
 
 import io
 import os
+import subprocess
 from collections.abc import Callable, Mapping, Sequence
 from contextlib import redirect_stderr
+from importlib.util import find_spec
 from pathlib import Path
 
-from lab import CLUSTER, Case, Ran, ran
+from lab import CLUSTER, ROOT, Case, Ran, ran
 from lab import HOOKS as HOOKS_OF_NONE
 from nemesis import damage, main
 from nemesis.damage import NOTICED, Damage, Pattern
@@ -440,6 +442,43 @@ class Roles(Case):
                 main.parsed([str(CLUSTER), str(HOOKS_OF_NONE), *words])
             self.assertEqual(end.exception.code, 2)
             self.assertIn(message, said.getvalue())
+
+
+class Examples(Case):
+    """The hooks of real stores, none of which runs."""
+
+    def called(self, store: str, *words: str, **env: str) -> str:
+        """What a hook of a store prints."""
+        hooks = ROOT / "examples" / store / "hooks"
+        told = {"FY_COUNT": "5", "FY_NAMES": "s0 s1 s2 s3 s4", "FY_DIR": str(self.room), **env}
+        path = [str(ROOT / "bindings/python/src"), os.environ.get("PYTHONPATH", "")]
+        told["PYTHONPATH"] = os.pathsep.join(path).strip(os.pathsep)
+        done = subprocess.run([hooks, *words], env={**os.environ, **told}, stdout=subprocess.PIPE)
+        self.assertEqual(done.returncode, 0, (store, words))
+        return done.stdout.decode()
+
+    def test_files_are_named_below_the_folder_of_a_process(self) -> None:
+        named = 0
+        for hooks in sorted(ROOT.glob("examples/*/hooks")):
+            store = hooks.parent.name
+            is_there = store != "ceph" or find_spec("rados")  # which its hooks import
+            if is_there and "files" in self.called(store, "hooks").split():
+                named += 1
+                self.assertNotIn(damage.EVERY, damage.patterns_of(self.called(store, "files", "1")))
+        self.assertGreaterEqual(named, 7)
+
+    def test_a_damaged_server_of_zookeeper_stays_a_voter(self) -> None:
+        """One that was emptied comes back as an observer."""
+        java, mine = self.room / "java", self.room / "1"
+        java.write_text("#!/bin/sh\n")
+        java.chmod(0o755)
+        (mine / "data").mkdir(parents=True)
+        more = {"FY_PORT": "1", "PATH": f"{self.room}{os.pathsep}{os.environ['PATH']}"}
+        self.called("zookeeper", "start", "1", FY_ABLE="0 1 2 3 4", **more)
+        first = {it.name: it.read_text() for it in mine.glob("zoo.cfg*")}
+        self.assertIn("server.2=127.0.0.1:6:7:participant", first["zoo.cfg.dynamic"])
+        self.called("zookeeper", "start", "1", FY_ABLE="0 2 3 4", FY_DAMAGED="1", **more)
+        self.assertEqual({it.name: it.read_text() for it in mine.glob("zoo.cfg*")}, first)
 
 
 class Honest(Case):
