@@ -79,8 +79,8 @@ test:
 	$(NEEDS_RT)
 	tests/suites test
 
-## SINCE=.. runs the tests that need no proof, on the program built without proofs: all, or those that
-## look at what changed since a commit, SINCE
+## SINCE=.. runs the tests that need no proof, on the program built without proofs: all, or those
+## that look at what changed since a commit, SINCE
 quick:
 	tests/suites quick $(if $(SINCE),--since $(SINCE))
 
