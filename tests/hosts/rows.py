@@ -396,6 +396,7 @@ class Refusals(Case):
 
     def test_places(self):
         self.refused("--at has 2 places for 3 processes", "--at", "h0,h1")
+        self.refused("--on ssh:h0,h1 has 2 places for 3 processes", "--on", "ssh:h0,h1")
         self.refused("are wanted: h0:x", "--at", "h0:x,h1,h2")
         path = self.room / "places"
         path.write_text("p0 h0\np1 h1:1\n")

@@ -42,15 +42,17 @@ def places(text: str) -> dict[str, Place] | list[Place]:
         raise ArgumentTypeError(f"{what} are wanted: {fault}") from None
 
 
-def reached(given: dict[str, Place] | list[Place], names: Sequence[str]) -> list[Place]:
-    """The place of each process, with a port."""
+def reached(
+    given: dict[str, Place] | list[Place], names: Sequence[str], option: str = "--at"
+) -> list[Place]:
+    """The place of each process, with a port; `option` gave the places."""
     if isinstance(given, dict):
         for name in [*(set(given) - set(names)), *(set(names) - set(given))]:
             lacks = "has no line in the file" if name in names else "is no process"
             raise Fault(USAGE, f"--at: {name} {lacks}")
         given = [given[name] for name in names]
     if len(given) != len(names):
-        raise Fault(USAGE, f"--at has {len(given)} places for {len(names)} processes")
+        raise Fault(USAGE, f"{option} has {len(given)} places for {len(names)} processes")
     row = in_a_row([it.host for it in given], BASE)
     return [Place(it.host, it.port or other.port) for it, other in zip(given, row)]
 

@@ -84,8 +84,10 @@ class Store(Harness):
 
     def _places(self) -> list[Place]:
         """Where each process is reached: at free ports, if that isn't given."""
-        if given := self.words.at or addresses(self.words.on):
-            return reached(given, self.names)
+        if self.words.at:
+            return reached(self.words.at, self.names)
+        if given := addresses(self.words.on):
+            return reached(given, self.names, f"--on {self.words.on}")
         count = len(self.names)
         hosts = self.net.hosts if self.net else ["127.0.0.1"] * count
         if self.words.port is None:
