@@ -141,9 +141,9 @@ lossy: FUSE_ARCHIVE = $(wildcard $(shell pkg-config --variable=libdir fuse3)/lib
 lossy: FUSE = $(or $(FUSE_ARCHIVE:%=% -pthread -ldl),$(shell pkg-config --libs fuse3))
 lossy: bin/faultyard-lossy
 
-bin/faultyard-lossy: $(wildcard tools/lossy/*.[ch])
+bin/faultyard-lossy: $(wildcard tools/lossy/*.[ch]) crates/faultyard/src/task.rt
 	mkdir -p bin
-	$(CC) -std=gnu11 -D_GNU_SOURCE -O2 -Wall -Wextra -Werror $(shell pkg-config --cflags fuse3) \
+	$(CC) -std=gnu11 -D_GNU_SOURCE -DFAULTYARD_VERSION='"$(shell release/version)"' -O2 -Wall -Wextra -Werror $(shell pkg-config --cflags fuse3) \
 		-o $@ tools/lossy/*.c $(FUSE)
 
 ## tests that disk by thousands of seeds, beside ext4 and xfs, and by longer loads; needs to be root

@@ -23,6 +23,10 @@ from collections.abc import Iterable
 from pathlib import Path
 from typing import Any
 
+sys.dont_write_bytecode = True
+
+from command_line import printed  # noqa: E402
+
 KINDS = ("KillInstantly", "RebootAndDelete", "Reboot", "RebootProcess")
 DESTROYING = KINDS[:2]
 RULES = ("NoTarget", "NoGrant", "Protected", "TooManyDestroyed", "TooFewLeft")
@@ -262,9 +266,8 @@ def table(ran: str, wanted: str) -> int:
             f"{max((run for run, _ in times), default=0) / 1e3:.1f}",
         ),
     ]
-    print("| Of all seeds | |\n|---|---|")
-    for what, number in rows:
-        print(f"| {what} | {number} |")
+    told = "".join(f"| {what} | {number} |\n" for what, number in rows)
+    printed(f"| Of all seeds | |\n|---|---|\n{told}")
     return 1 if bad or seeds != int(wanted) else 0
 
 

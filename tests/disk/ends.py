@@ -288,6 +288,11 @@ def other_files(program):
         assert os.listdir(disk.folder) == ["link"]
 
 
+def told_of(words):
+    """Which order wrong words are told the usage of: theirs, or all where there is none such."""
+    return words[0] if words and words[0] != "what" else "mount|sync|"
+
+
 def wrong_words(program):
     """Each refusal has its status, and nothing is mounted."""
     with tempfile.TemporaryDirectory() as room:
@@ -316,7 +321,8 @@ def wrong_words(program):
             done = subprocess.run([program, *words], capture_output=True, text=True)
             assert (
                 done.returncode == 2
-                and "usage: faultyard-lossy mount" in done.stderr
+                and done.stderr.startswith(f"usage: faultyard-lossy {told_of(words)}")
+                and done.stderr.count("\n") == (2 if words == ["what"] else 1)
                 and not done.stdout
             ), (words, done)
         for words in (

@@ -99,6 +99,13 @@ def programs() -> list[str]:
     return ["faultyard", *tools()]
 
 
+def tells_its_version(name: str, path: Path, env: Mapping[str, str] | None = None) -> None:
+    """A program tells its name and the version that `release/version` has, and nothing else."""
+    ran = subprocess.run([path, "--version"], env=env, capture_output=True, text=True)
+    told = ran.returncode, ran.stdout, ran.stderr
+    assert told == (0, f"{name} {version()}\n", ""), f"{path} --version: {told}"
+
+
 def options_of_tool(name: str) -> set[str]:
     """The options that the help of a tool lists; one that lists none has its help alone."""
     tool = tools()[name]

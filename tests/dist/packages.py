@@ -12,7 +12,7 @@ import tarfile
 import tempfile
 from pathlib import Path
 
-from checks import ROOT, Skip, need, programs, said, version
+from checks import ROOT, Skip, need, programs, said, tells_its_version, version
 
 EPOCH = 1_700_000_000
 ARCHIVE = f"faultyard-{version()}-linux-x86_64"
@@ -318,7 +318,8 @@ def archive_runs_where_it_lies() -> None:
     """The tools find the program beside them, and nothing else of faultyard is on the PATH."""
     examples = unpacked() / "share/doc/faultyard/examples"
     env = {"PATH": "/usr/bin:/bin", "HOME": str(room())}
-    assert said(unpacked() / "bin/faultyard", "--version", env=env) == f"faultyard {version()}\n"
+    for name in programs():
+        tells_its_version(name, unpacked() / "bin" / name, env)
     script = examples / "two-zones.jsonl"
     fails = ["sh", "-c", '! grep -q z1 "$1"', "sh"]
     left = said(

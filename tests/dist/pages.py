@@ -20,6 +20,7 @@ from checks import (
     program,
     programs,
     said,
+    tells_its_version,
     tools,
     version,
 )
@@ -78,9 +79,9 @@ def nemesis_tells_each_end() -> None:
     module = generator()
     code = (ROOT / "tools/nemesis/__init__.py").read_text()
     count = re.search(r"^NONE_LOST, .* = range\((\d+)\)$", code, re.MULTILINE)
-    last = re.search(r"^NOT_LINEARIZABLE, DAMAGED = (\d+), (\d+)$", code, re.MULTILINE)
-    assert count and last, "the statuses of faultyard-nemesis aren't found"
-    wanted = [*map(str, range(int(count[1]))), *last.groups(), "128 + N"]
+    more = re.findall(r"^[A-Z_]+, .* = (\d+(?:, \d+)+)$", code, re.MULTILINE)
+    assert count and more, "the statuses of faultyard-nemesis aren't found"
+    wanted = [*map(str, range(int(count[1]))), *", ".join(more).split(", "), "128 + N"]
     assert [status for status, _ in module.ends()] == wanted, wanted
     with tempfile.TemporaryDirectory() as folder:
         said("release/pages", "man", folder)
@@ -285,6 +286,41 @@ def same_version_everywhere() -> None:
         ), name
 
 
+def each_program_tells_its_version() -> None:
+    """Those of bin/ are built; without its compiler one isn't there, and packages ask all."""
+    for name, path in {"faultyard": program(), **tools()}.items():
+        if path.exists():
+            tells_its_version(name, path)
+
+
+def closed_pipes_are_no_fault() -> None:
+    """Whoever reads only the first line of a help, or of a version, isn't told of that."""
+    for name, path in tools().items():
+        for word in ("--help", "--version"):
+            if not path.exists():
+                continue
+            reading, writing = os.pipe()
+            os.close(reading)
+            ran = subprocess.run([path, word], stdout=writing, stderr=subprocess.PIPE, text=True)
+            os.close(writing)
+            assert not ran.stderr, f"{name} {word} says {ran.stderr}"
+
+
+def wrong_words_are_told_in_two_lines() -> None:
+    """Of a wrong option a tool says how it is called, and what is wrong, with a word that is near.
+
+    The server's and the disk's own words are tested beside them.
+    """
+    near = {"nemesis": ("--second", "--seconds"), "shrink": ("--evens", "--events")}
+    near |= {"config-check": ("--versoin", "--version"), "sweep": ("--simulat", "--simulat")}
+    for name, (word, meant) in near.items():
+        path = tools()[f"faultyard-{name}"]
+        ran = subprocess.run([path, word, "a", "b", "c", "d"], capture_output=True, text=True)
+        usage, wrong = ran.stderr.splitlines()
+        assert (ran.returncode, ran.stdout) == (2, ""), (name, ran)
+        assert usage.startswith("usage: ") and word in wrong and meant in wrong, (name, ran.stderr)
+
+
 def completions_wanted() -> dict[str, set[str]]:
     """What has to be offered behind a command line."""
     wanted = {"faultyard ": set(commands()), "faultyard -": options()}
@@ -347,6 +383,9 @@ CHECKS = [
     man_pages_tell_each_fault,
     examples_are_true,
     same_version_everywhere,
+    each_program_tells_its_version,
+    closed_pipes_are_no_fault,
+    wrong_words_are_told_in_two_lines,
     completes_in_bash,
     completes_in_zsh,
     completes_in_fish,

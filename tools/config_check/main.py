@@ -2,12 +2,12 @@
 
 from __future__ import annotations
 
-import argparse
 import os
 import subprocess
 import sys
 from pathlib import Path
 
+from command_line import Parser, printed
 from faultyard import NotFound
 from faultyard.programs import find_program
 
@@ -44,7 +44,7 @@ def check(name: str) -> int:
         return status
     status, line = verdict(content)
     if status == 0:
-        print(f"{name}: ok")
+        printed(f"{name}: ok\n")
     elif status == 1:
         tell([line, *explained(name, content, line)])
     else:
@@ -65,7 +65,7 @@ def explain(path: Path) -> str:
 
 def main() -> int:
     """Does what the words say."""
-    it = argparse.ArgumentParser("faultyard-config-check", description=about, allow_abbrev=False)
+    it = Parser("faultyard-config-check", "CONFIG", description=about)
     it.add_argument("config", metavar="CONFIG", help="the cluster file")
     words = it.parse_args()
     try:

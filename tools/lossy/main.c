@@ -45,13 +45,30 @@ static const char HELP_TEXT[] =
     "  --deaf               syncs do nothing, as on a disk that lies\n"
     "  -f, --foreground     stay in the foreground\n"
     "  --writeback SECONDS  what is so old is durable by itself (30); 0 for never\n"
+    "  --version            print the version\n"
     "  -h, --help           print help\n";
+
+#ifndef FAULTYARD_VERSION // as `make lossy` has it of release/version
+#define FAULTYARD_VERSION "of no release"
+#endif
 
 static const double WRITEBACK = 30; // as Linux has it
 
-static int refuse(void)
+// Says how an order is called, in the one line of it, or which orders there are.
+static int refuse(const char *deed)
 {
-    fputs(USAGE_TEXT, stderr);
+    size_t length = strlen(deed);
+    for (const char *line = USAGE_TEXT; *line; line = strchr(line, '\n') + 1) {
+        const char *name = strstr(line, "faultyard-lossy ") + strlen("faultyard-lossy ");
+        if (length && strncmp(name, deed, length) == 0 && name[length] == ' ') {
+            fprintf(stderr, "usage: faultyard-lossy %.*s\n", (int)(strchr(name, '\n') - name),
+                    name);
+            return USAGE;
+        }
+    }
+    fputs("usage: faultyard-lossy mount|sync|cut|unmount|slow|room|fail|lie ..\n", stderr);
+    if (length)
+        fprintf(stderr, "faultyard-lossy: there is no order '%s'\n", deed);
     return USAGE;
 }
 
@@ -122,7 +139,7 @@ static int mount_disk(int count, char **texts)
     char *folder;
     int status, why;
     if (!read_words(count, texts, &words))
-        return refuse();
+        return refuse(texts[0]);
     allow_many_files();
     why = disk_open(&disk, words.disk);
     if (why == EBUSY)
@@ -282,7 +299,7 @@ static int order_sync(int count, char **texts)
     struct mounted it;
     int status;
     if (count != 2)
-        return refuse();
+        return refuse(texts[0]);
     if (!find_mounted(texts[1], &it))
         return FAILED;
     status = sync_disk(&it);
@@ -296,7 +313,7 @@ static int order_cut(int count, char **texts)
     uint64_t tear = 0;
     int status;
     if (count < 2 || count > 3 || (count == 3 && !read_number(texts[2], &tear)))
-        return refuse();
+        return refuse(texts[0]);
     if (!find_mounted(texts[1], &it))
         return FAILED;
     status = cut_disk(&it, tear);
@@ -309,7 +326,7 @@ static int order_unmount(int count, char **texts)
     struct mounted it;
     int status;
     if (count != 2)
-        return refuse();
+        return refuse(texts[0]);
     if (!find_mounted(texts[1], &it))
         return FAILED;
     status = unmount_disk(&it);
@@ -337,7 +354,7 @@ static int order_slow(int count, char **texts)
     uint64_t bytes = 0;
     if (count < 3 || count > 4 || !read_seconds(texts[2], &pace.call) ||
         (count == 4 && (!read_number(texts[3], &bytes) || !bytes)))
-        return refuse();
+        return refuse(texts[0]);
     pace.byte = bytes ? 1 / (double)bytes : 0;
     return tell(texts[1], LOSSY_SLOW, &pace);
 }
@@ -346,7 +363,7 @@ static int order_room(int count, char **texts)
 {
     uint64_t bytes = NO_BOUND;
     if (count != 3 || (strcmp(texts[2], "all") != 0 && !read_number(texts[2], &bytes)))
-        return refuse();
+        return refuse(texts[0]);
     return tell(texts[1], LOSSY_ROOM, &bytes);
 }
 
@@ -357,7 +374,7 @@ static int order_spoil(int count, char **texts)
     int why;
     if (count != 4 || !read_number(texts[2], &place) || !read_number(texts[3], &length) ||
         place > INT64_MAX || length > INT64_MAX)
-        return refuse();
+        return refuse(texts[0]);
     part = (struct part){(int64_t)place, (int64_t)length};
     why = give(texts[1], 0, strcmp(texts[0], "fail") == 0 ? LOSSY_FAIL : LOSSY_LIE, &part);
     if (why != ENOTTY)
@@ -379,8 +396,10 @@ int main(int count, char **texts)
     const char *deed = count > 1 ? texts[1] : "";
     if (count == 2 && (strcmp(deed, "--help") == 0 || strcmp(deed, "-h") == 0))
         return help();
+    if (count == 2 && strcmp(deed, "--version") == 0)
+        return puts("faultyard-lossy " FAULTYARD_VERSION) >= 0 && !fflush(stdout) ? DONE : FAILED;
     for (size_t place = 0; place < sizeof DEEDS / sizeof *DEEDS; place++)
         if (strcmp(deed, DEEDS[place].name) == 0)
             return DEEDS[place].call(count - 1, texts + 1);
-    return refuse();
+    return refuse(deed);
 }

@@ -18,6 +18,7 @@ from faultyard import InvalidAct, Kind
 from faultyard import NotFound
 from faultyard.plans import PLANS
 from faultyard.verdicts import Verdict
+from command_line import Parser
 from config_check.main import explain
 from keeper import adopt_orphans, end_children
 
@@ -73,7 +74,7 @@ def pair(text: str) -> list[float]:
 
 def parsed(given: Sequence[str] | None = None) -> argparse.Namespace:
     """The words of the command line, which have to be right."""
-    it = argparse.ArgumentParser("faultyard-nemesis", description=about, allow_abbrev=False)
+    it = Parser("faultyard-nemesis", "CONFIG HOOKS [OPTION..]", description=about)
     add = it.add_argument
     add("config", type=Path, metavar="CONFIG", help="the cluster file")
     add("hooks", type=Path, metavar="HOOKS", help="an executable that knows the store")

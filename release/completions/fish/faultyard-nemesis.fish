@@ -1,6 +1,7 @@
 # Completion of faultyard-nemesis for fish.
 
 complete -c faultyard-nemesis -s h -l help -d "Print help"
+complete -c faultyard-nemesis -l version -d "Print the version"
 complete -c faultyard-nemesis -l seed -x -d "The orders are drawn from this seed"
 complete -c faultyard-nemesis -l seconds -x -d "How long records are written"
 complete -c faultyard-nemesis -l plan -x \

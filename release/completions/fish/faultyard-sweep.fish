@@ -1,6 +1,7 @@
 # Completion of faultyard-sweep for fish.
 
 complete -c faultyard-sweep -s h -l help -d "Print help"
+complete -c faultyard-sweep -l version -d "Print the version"
 complete -c faultyard-sweep -l simulate -d "Run simulate in place of swarm"
 complete -c faultyard-sweep -l acts -x -d "How many acts it makes"
 complete -c faultyard-sweep -l plan -x -a "mixed attrition swizzle rolling" \
