@@ -11,7 +11,20 @@ import sys
 from collections import Counter
 
 from lab import CLUSTER, HERE, ROOT, Case
-from toy import Call, Crashes, Forgetful, Idle, Lags, Partial, Toy, Twice, Unsynced, ends, hangs
+from toy import (
+    Call,
+    Crashes,
+    Forgetful,
+    Idle,
+    Lags,
+    Partial,
+    Stands,
+    Toy,
+    Twice,
+    Unsynced,
+    ends,
+    hangs,
+)
 
 READERS = "start ready whole write read check salvage"
 
@@ -416,6 +429,84 @@ class Paced(Case):
             self.assertGreater(len(times), 2, plan)
             for one, other in zip(times, times[1:]):
                 self.assertGreaterEqual(round(other - one, 1), least)
+
+
+class Rescued(Case):
+    """A store that stands once two of three were down at once, until an operator rescues it."""
+
+    is_shown = False
+    LISTED = "start ready whole write read salvage rescue"
+    TAKES = (3, "p0", "RebootAndDelete"), (3.1, "p1", "Reboot")
+
+    def test_without_the_hook_it_stands_to_the_end(self) -> None:
+        listed = self.LISTED.replace(" rescue", "")
+        words = ("--seconds", 40, "--hook-timeout", 2, *self.given(*self.TAKES))
+        it = self.ran(*words, toy=Stands(pace=0.5, listed=listed), status=0)
+        self.assertIn("nothing could be read in 12 seconds", it.told)
+        self.assertLess(max(it.toy.ok_at.values()) - it.toy.began, 5)
+
+    def test_the_hook_has_it_go_on(self) -> None:
+        words = ("--seconds", 40, *self.given(*self.TAKES))
+        it = self.ran(*words, toy=Stands(pace=0.5, listed=self.LISTED), status=0)
+        (rescued,) = it.events("rescue")
+        last = max(event["t"] for event in it.events("order"))
+        # It had 15 seconds to come back by itself.
+        self.assertGreater(rescued["t"], last + 14)
+        self.assertLess(rescued["t"], last + 20)
+        self.assertIn("\nrescued 1 times by the hook\n", it.told)
+        self.assertIn("1 destroying; 1 healed", it.told)
+        acks = [line["time"] / 1e9 for line in it.operations("write", "ok")]
+        self.assertGreater(sum(t > rescued["t"] for t in acks), 20)
+
+    def test_it_is_asked_also_where_nothing_can_be_read_at_the_end(self) -> None:
+        words = ("--seconds", 5, *self.given(*self.TAKES))
+        it = self.ran(*words, toy=Stands(pace=0.5, listed=self.LISTED), status=0)
+        (rescued,) = it.events("rescue")
+        self.assertGreater(rescued["t"], it.events("written")[0]["t"])
+        self.assertNotIn("nothing could be read", it.told)
+
+    def test_what_it_prints_is_done(self) -> None:
+        async def rescue(call: Call) -> int:
+            call.print("restart 2")
+            return await Stands.rescue(store, call)
+
+        words = ("--seconds", 40, *self.given(*self.TAKES))
+        store = Stands(pace=0.5, listed=self.LISTED, hooks={"rescue": rescue})
+        it = self.ran(*words, toy=store, status=0)
+        (rescued,) = it.events("rescue")
+        self.assertEqual(rescued["says"], ["restart 2"])
+        self.assertEqual([event["process"] for event in it.events("restart")], [2])
+        store = Stands(pace=0.5, listed=self.LISTED, hooks={"rescue": ends(0, prints=["empty 2"])})
+        it = self.ran(*words, toy=store, status=3)
+        self.assertIn("rescue said 'empty 2', and p2 was not destroyed", it.told)
+
+    def test_nobody_is_asked_while_one_is_cut_off(self) -> None:
+        """Who is cut off might be the quorum."""
+        path = self.given(*self.TAKES)[1]
+        clog = {"t": 3.2, "what": "order", "key": "processid", "value": "p2", "order": "Clog"}
+        path.write_text(path.read_text() + json.dumps(clog | {"clogged": 30.0}) + "\n")
+        words = ("--seconds", 60, "--replay", path)
+        it = self.ran(*words, toy=Stands(pace=0.5, listed=self.LISTED), status=0)
+        (rescued,) = it.events("rescue")
+        self.assertGreater(rescued["t"], 33.2 + 15)
+
+    def test_a_store_that_goes_on_is_not_rescued(self) -> None:
+        words = ("--seconds", 40, *self.given(*self.TAKES))
+        it = self.ran(*words, toy=Toy(pace=0.5, listed=self.LISTED), status=0)
+        self.assertNotIn("rescue", it.toy.calls)
+        self.assertEqual(it.events("rescue"), [])
+
+    def test_check_hooks_tries_it(self) -> None:
+        words = ("--check-hooks",)
+        it = self.ran(*words, toy=Stands(pace=0.5, listed=self.LISTED), status=0)
+        self.assertEqual(len(it.events("rescue")), 1)
+        it = self.ran(*words, toy=Toy(pace=0.5, listed=self.LISTED), status=0)
+        text = "p0 was emptied while p1 was rebooted, and all came back: `rescue` wasn't needed"
+        self.assertIn(text, it.told)
+        store = Stands(pace=0.5, listed=self.LISTED, hooks={"rescue": ends(1, "not yet")})
+        it = self.ran(*words, "--hook-timeout", 4, toy=store, status=3)
+        text = "they don't come back: rescue ended with status 1 (not yet); after 24 seconds p0"
+        self.assertIn(text, it.told)
 
 
 class Late(Case):

@@ -879,6 +879,42 @@ class Toy(Machine):
         return all(mode.copies() for mode in self.modes)
 
 
+class Stands(Toy):
+    """A store that stands once two of its members were down at once, until `rescue` is called while
+    all that aren't destroyed run: whoever started since isn't ready, and nothing is written or read.
+    """
+
+    stands = False
+    ready_before: frozenset[int] = frozenset()
+
+    async def start(self, call: Call) -> int:
+        try:
+            return await super().start(call)
+        finally:
+            if len(self.members) < COPIES and not self.stands:
+                self.stands, self.ready_before = True, frozenset(self.members)
+
+    async def ready(self, call: Call) -> int:
+        if self.stands and call.number not in self.ready_before:
+            return 1
+        return await super().ready(call)
+
+    async def stored(self, key: str, value: str) -> bool:
+        return not self.stands and await super().stored(key, value)
+
+    async def whole(self, call: Call) -> int:
+        return 1 if self.stands else await super().whole(call)
+
+    async def read(self, call: Call) -> int:
+        return 1 if self.stands else await super().read(call)
+
+    async def rescue(self, call: Call) -> int:
+        if not self.stands or not {*call.able} <= self.members.keys():
+            return 1
+        self.stands = False
+        return 0
+
+
 def now() -> float:
     return asyncio.get_running_loop().time()
 

@@ -62,6 +62,8 @@ class HookCheck:
             await self._healed(number, before)
             if self.run.disks:
                 await self._reboot(name, "join")
+        if "rescue" in self.hooks.names:
+            await self._rescued(*self.run.names[:2])
         if "leave" in self.hooks.names and Kind.KILL_INSTANTLY in granted:
             await self._order(Kind.KILL_INSTANTLY, self.run.names[-1])
         return self.notes
@@ -95,6 +97,22 @@ class HookCheck:
         await run.clogs_ended()
         await run.calm()
         run.show(f"{name} is {'out' if kind.is_final else 'back'} after {kind.value}")
+
+    async def _rescued(self, emptied: str, rebooted: str) -> None:
+        """Has one emptied and another rebooted at once, as a guard allows, and all come back."""
+        run, before, known = self.run, self.run.rescue.done, self._known()
+        text = f"{emptied} was emptied while {rebooted} was rebooted"
+        for kind, name in ((Kind.REBOOT_AND_DELETE, emptied), (Kind.REBOOT, rebooted)):
+            await run.obey(run.fault, Order(kind, Key.PROCESS, name).act())
+        try:
+            await run.calm()
+        except Fault as fault:
+            end = self.hooks.ends.get("rescue", "`rescue` wasn't asked")
+            raise wrong(f"{text}, and they don't come back: {end}; {fault.args[1]}") from None
+        if lacks := await self._lacked_by_read(known):
+            raise wrong(f"{text}, and `read` lacks {counted(lacks, known)}: `rescue` is wrong")
+        if run.rescue.done == before:
+            self.notes.append(f"{text}, and all came back: `rescue` wasn't needed, nor tried")
 
     async def _reboot(self, name: str, wrote: str) -> None:
         """With disks it is a power cut: what a hook wrote and didn't sync is gone."""

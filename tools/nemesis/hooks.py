@@ -20,13 +20,13 @@ from .places import Place
 
 NEEDED = {"start", "whole", "write", "read"}
 KNOWN = NEEDED | {"hooks", "setup", "ready", "join", "leave", "elect", "pause", "resume"}
-KNOWN |= {"check", "get", "salvage", "files", "stop"}
+KNOWN |= {"check", "get", "salvage", "files", "stop", "rescue"}
 # These act where the tool can't.
 KNOWN |= {"kill", "empty", "fetch", "power", "cut", "mend", "name"}
 # These are no hooks, but promises: no answer of check lags; records stand in files as written.
 KNOWN |= {"fresh", "plain"}
 # Some copy: they have six times as long.
-SLOW = {"hooks", "setup", "join", "elect", "read", "salvage", "fetch"}
+SLOW = {"hooks", "setup", "join", "elect", "read", "salvage", "fetch", "rescue"}
 # One without the other is wrong.
 NEEDS = {"pause": "resume", "resume": "pause", "fresh": "check", "plain": "salvage"}
 NEEDS |= {"cut": "mend", "mend": "cut", "kill": "ready"}

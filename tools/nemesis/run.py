@@ -231,6 +231,8 @@ class Run(Store):
         self.show("reads what is left")
         found, acked = await self.clients.read(), list(self.ledger.records)
         self.stages.end("reading")
+        self.rescue.end()
+        self.notes += self.rescue.told()
         if not acked:
             amount, asked = self.amount(), len(self.history.writes)
             why = failures(amount) if amount.failed else f"none of {asked} writes was answered"

@@ -31,6 +31,7 @@ from .net import Net
 from .observed import Damages
 from .orders import STOPS
 from .places import PORTS, Place, addresses, in_a_row, reached
+from .rescue import Rescue
 
 DEAF = Path(__file__).with_name("deaf.py")
 AGAIN = 0.1  # seconds until a hook that said no is asked again
@@ -69,7 +70,8 @@ class Store(Harness):
         self.crashes: dict[int, Crashes] = {}  # of those that ended by themselves
         self.emptied: set[int] = set()  # until they have joined, or left
         self._ended: dict[int, str] = {}  # how each last ended by itself, until it is up
-        self.partitions = 0  # how many there were
+        self.partitions = self.apart = 0  # how many there were, and how many are now
+        self.rescue = Rescue(self)
         # When the first and the last `whole` of each was called that said no since it was struck;
         # None once another one was down then, which may be why.
         self.not_whole: dict[int, tuple[float, float] | None] = {}
@@ -123,6 +125,7 @@ class Store(Harness):
         """Starts the store."""
         self.tasks, self.spawn = tasks, tasks.create_task
         self._electing = tasks.create_task(self._elect())
+        self._rescuing = tasks.create_task(self.rescue.watch())
         for number in range(len(self.names)):
             (self.words.out / str(number)).mkdir(exist_ok=True)
             self._keeping[number] = tasks.create_task(self._keep(number))
@@ -182,7 +185,7 @@ class Store(Harness):
     async def end(self) -> None:
         """Ends all; nothing is told to the guard then."""
         async with self.turn:
-            await cancelled([self._electing, *self._keeping.values()])
+            await cancelled([self._electing, self._rescuing, *self._keeping.values()])
             await self.elsewhere.end()
 
     async def strike(self, processes: Sequence[int], kind: Kind) -> None:
@@ -266,6 +269,11 @@ class Store(Harness):
         for number in processes:
             self.signal(number, signal.SIGSTOP)
 
+    def runs(self, number: int) -> bool:
+        """Whether a process was started, and didn't end since."""
+        process = self._started.get(number)
+        return process is not None and self.elsewhere.runs(process)
+
     def signal(self, number: int, sent: int) -> None:
         """Sends a signal to all that a process runs."""
         process = self._started.get(number)
@@ -340,13 +348,18 @@ class Store(Harness):
     async def partition(self, order: Order) -> None:
         """Loses what some processes send to others, until the order's time is over."""
         assert self.net
-        self.partitions += 1
+        self.partitions, self.apart = self.partitions + 1, self.apart + 1
         async with self.turn:
             self.note("partition", shape=order.value, cuts=order.cuts, clogged=order.clogged)
             self.show(f"partition {order.value}: {self._sides(order)}, {order.clogged:g} s")
             await self.net.cut(order.cuts, True)
         net = self.net
-        self.lasting(order.clogged, lambda: net.cut(order.cuts, False))
+
+        async def mend() -> None:
+            await net.cut(order.cuts, False)
+            self.apart -= 1
+
+        self.lasting(order.clogged, mend)
 
     def lasting(self, seconds: float, end: Callable[[], Awaitable[None]]) -> None:
         """Has what was begun end after so many seconds, and no later than the orders do."""
@@ -522,19 +535,19 @@ class Store(Harness):
             seen = self._losses()
             if not self._is_elected() and (text := await self.hooks.call("elect")) is not None:
                 for line in text.splitlines():
-                    await self._elect_says(line)
+                    await self.do_as_said("elect", line)
                 self._elected = seen
 
-    async def _elect_says(self, line: str) -> None:
-        """Does what a line of the hook says."""
+    async def do_as_said(self, hook: str, line: str) -> None:
+        """Does what a line of the hook `elect` or `rescue` says."""
         match line.split():
             case ["empty" | "restart" as what, word] if word in map(str, self._keeping):
                 number = int(word)
             case _:
-                text = f"elect printed {line[:80]!r}; it may print 'empty N' and 'restart N'"
+                text = f"{hook} printed {line[:80]!r}; it may print 'empty N' and 'restart N'"
                 raise Fault(HOOK, text)
         if what == "empty" and number in self.ledger.able:
-            text = f"elect said {line!r}, and {self.names[number]} was not destroyed"
+            text = f"{hook} said {line!r}, and {self.names[number]} was not destroyed"
             raise Fault(HOOK, f"{text}: the guard counts on its records")
         async with self.turn:
             if number not in self.gone:

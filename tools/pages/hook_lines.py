@@ -15,6 +15,7 @@ import tables
 from source import ROOT
 
 HOOKS = "setup start ready join leave elect pause resume whole write check get read salvage".split()
+HOOKS += ["rescue"]
 OPTIONAL = {"check", "get", "salvage", "files"}
 NO_CODE = {
     tokenize.COMMENT,

@@ -30,7 +30,7 @@ Answer = TypeVar("Answer")
 MORE = {"?": "?"}  # among what `salvage` returns: there may be more, which it couldn't read
 _user: Dict[str, Any] = {}  # as whom commands run, if not as who runs the hook
 HOOKS = "setup start ready join leave elect pause resume whole write check get read salvage".split()
-HOOKS += "kill empty fetch power cut mend name files stop".split()
+HOOKS += "kill empty fetch power cut mend name files stop rescue".split()
 # What stands in a module of its own.
 ELSEWHERE = {
     "Amqp": "amqp",
@@ -338,6 +338,14 @@ def works(ask: Callable[..., Any], *words: object) -> bool:
     except noes():
         return False
     return True
+
+
+def tried(ask: Callable[..., Answer], *words: object) -> Optional[Answer]:
+    """What a call answers; None where a fault that says no ends it."""
+    try:
+        return ask(*words)
+    except noes():
+        return None
 
 
 def answered(ask: Callable[[], Answer], seconds: float = 30.0) -> Answer:
