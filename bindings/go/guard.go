@@ -31,6 +31,7 @@ func Version() (major, minor, patch uint32) {
 type Guard struct {
 	lock    sync.Mutex
 	library C.fy_guard // its pointer is nil once it is closed
+	told    C.size_t   // what a call tells: a variable of its own would be made anew each time
 }
 
 // Open opens a guard of a cluster in which nothing happened yet, by the text of a cluster file.
@@ -312,20 +313,32 @@ func (guard *Guard) Heal(actor, process uint32) error {
 // ErrNoMemory may take the place of any but the first. After ErrUnwritten the act stands in the
 // journal.
 func (guard *Guard) Act(line []byte) ([]byte, error) {
-	text, length := bytesOf(line)
-	answer := make([]byte, len(line)+C.FY_MOST_REPLY)
+	return guard.AppendAct(nil, line)
+}
+
+// AppendAct makes an act as Act does, and puts the line of its entry behind a text: where the text
+// has room for it and the longest reply, no memory is taken. With an error the text is as it was.
+func (guard *Guard) AppendAct(text, line []byte) ([]byte, error) {
+	act, length := bytesOf(line)
+	most := len(line) + C.FY_MOST_REPLY
+	answered := text
+	if cap(text)-len(text) < most {
+		answered = append(make([]byte, 0, 2*len(text)+most), text...)
+	}
+	answer := answered[len(text) : len(text)+most]
 	var status C.uint32_t
-	var told C.size_t
+	var told int
 	err := guard.do(func(its *C.fy_guard) {
-		status = C.fy_act(its, text, length, pointerTo(answer), C.size_t(len(answer)), &told)
+		status = C.fy_act(its, act, length, pointerTo(answer), C.size_t(most), &guard.told)
+		told = int(guard.told)
 	})
 	if err == nil {
 		err = errorOf(status)
 	}
 	if err != nil {
-		return nil, err
+		return text, err
 	}
-	return answer[:told], nil
+	return answered[:len(text)+told], nil
 }
 
 // IsDestroyed says whether a process is destroyed: struck by a kind that empties its disk, and not

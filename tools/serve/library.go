@@ -43,15 +43,15 @@ var faults = map[error]book.Fault{
 // Act makes an act. A line that the library refuses is a book.Fault. The library takes it without
 // its line feed: with it the line is a byte longer, and is read as a JSON value, which takes
 // longer.
-func (its library) Act(line []byte) ([]byte, error) {
-	answer, err := its.Guard.Act(bytes.TrimSuffix(line, []byte("\n")))
+func (its library) Act(text, line []byte) ([]byte, error) {
+	text, err := its.Guard.AppendAct(text, bytes.TrimSuffix(line, []byte("\n")))
 	if err == nil {
-		return answer, nil
+		return text, nil
 	}
 	if fault, is := faults[err]; is {
-		return nil, fault
+		return text, fault
 	}
-	return nil, ofLibrary(err)
+	return text, ofLibrary(err)
 }
 
 // ofLibrary is an error of the library as the server ends by it.

@@ -601,6 +601,9 @@ func TestAnErrorEntersNothing(t *testing.T) {
 		line, err := guard.Act(bad.line)
 		fails(t, err, bad.status)
 		equal(t, line == nil, true)
+		text, err := guard.AppendAct([]byte("front"), bad.line)
+		fails(t, err, bad.status)
+		equal(t, string(text), "front")
 	}
 	for _, at := range []int{0, -1, 1 << 40} {
 		_, err := guard.Entry(at)
@@ -616,6 +619,30 @@ func TestAnErrorEntersNothing(t *testing.T) {
 	_, err = guard.Act([]byte(`{"by":0,"act":{"tick":{"ticks":5}}}`))
 	fails(t, err, faultyard.ErrJournalFull)
 	equal(t, audit(t, guard), before)
+}
+
+func TestAnActBehindAText(t *testing.T) {
+	guard, other := opened(t, six(t)), opened(t, six(t))
+	line := []byte(`{"by":0,"act":{"tick":{"ticks":5}}}`)
+	entries := act(t, other, 0, `{"tick":{"ticks":5}}`) + act(t, other, 0, `{"tick":{"ticks":5}}`)
+	roomy := append(make([]byte, 0, 4096), "front "...)
+	text := append([]byte(nil), roomy...)
+	for range [2]int{} {
+		var err error
+		if roomy, err = guard.AppendAct(roomy, line); err != nil {
+			t.Fatal(err)
+		}
+	}
+	equal(t, string(roomy), "front "+entries)
+	guard = opened(t, six(t))
+	for range [2]int{} {
+		var err error
+		if text, err = guard.AppendAct(text[:len(text):len(text)], line); err != nil {
+			t.Fatal(err)
+		}
+	}
+	equal(t, string(text), "front "+entries)
+	equal(t, testing.AllocsPerRun(100, func() { _, _ = guard.AppendAct(roomy, line) }), 0.0)
 }
 
 func TestAClusterFileThatIsNone(t *testing.T) {
@@ -702,6 +729,8 @@ func assertClosed(t *testing.T, guard *faultyard.Guard) {
 	fails(t, guard.Up(0, 0), faultyard.ErrClosed)
 	fails(t, guard.Heal(0, 0), faultyard.ErrClosed)
 	_, err = guard.Act(nil)
+	fails(t, err, faultyard.ErrClosed)
+	_, err = guard.AppendAct(nil, nil)
 	fails(t, err, faultyard.ErrClosed)
 	_, err = guard.UpSet()
 	fails(t, err, faultyard.ErrClosed)

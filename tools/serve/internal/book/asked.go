@@ -9,6 +9,7 @@ import (
 
 var (
 	onceMember = []byte(`"once"`)
+	onceEnd    = []byte(`nce"`)
 	onceNames  = regexp.MustCompile(`^[A-Za-z0-9_.:-]{1,64}$`)
 )
 
@@ -21,7 +22,7 @@ type asked struct {
 
 // readAsk takes the key out of a line. Whatever else may be wrong with it, the guard says.
 func readAsk(ask Ask) (asked, Fault) {
-	if ask.Once == "" && !bytes.Contains(ask.Line, onceMember) {
+	if ask.Once == "" && !mayHaveOnce(ask.Line) {
 		return asked{line: ask.Line}, ""
 	}
 	var members map[string]json.RawMessage
@@ -49,6 +50,12 @@ func readAsk(ask Ask) (asked, Fault) {
 		return asked{}, Syntax
 	}
 	return asked{line: line, once: string(members["by"]) + " " + key}, ""
+}
+
+// mayHaveOnce says whether a line may have a member `once`. Its end is looked for first: the member
+// begins as each name and text of a line does, and most lines don't have that end anywhere.
+func mayHaveOnce(line []byte) bool {
+	return bytes.Contains(line, onceEnd) && bytes.Contains(line, onceMember)
 }
 
 // places are those of the members of an act in a line that the guard reads in one pass. Any other

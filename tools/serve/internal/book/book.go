@@ -23,13 +23,17 @@ const (
 	gatherPart = 4
 	// leastGather is the least time that is worth a wait.
 	leastGather = 20 * time.Microsecond
+	// mostKept is how many bytes of answers a turn has memory for when it is used again: one that
+	// asked much at once holds no more than others.
+	mostKept = 1 << 12
 )
 
 // Guard makes acts, and keeps the entry of each. Goroutines may share it.
 type Guard interface {
-	// Act makes the act of a script's line, and answers the line of its entry. Where the line is
-	// refused, nothing is entered and the error is a Fault. Any other error ends the book.
-	Act(line []byte) ([]byte, error)
+	// Act makes the act of a script's line, and puts the line of its entry behind a text. Where the
+	// line is refused, nothing is entered, the text is as it was, and the error is a Fault. Any other
+	// error ends the book.
+	Act(text, line []byte) ([]byte, error)
 	// Entry answers the line of the entry at a place, from 0.
 	Entry(at int) ([]byte, error)
 }
@@ -81,6 +85,8 @@ type Answer struct {
 type Turn struct {
 	Asks    []Ask
 	Answers []Answer
+	// text has the lines of the answers. It is used again, and each act would else take memory.
+	text []byte
 	// view is called with why the book makes no more acts, or nil. What it panics with is broken.
 	view   func(stop error)
 	broken error
@@ -88,6 +94,21 @@ type Turn struct {
 
 // NewTurn is a turn without asks.
 func NewTurn() *Turn { return new(Turn) }
+
+// begin takes out what was answered before.
+func (turn *Turn) begin() {
+	turn.Answers, turn.text = turn.Answers[:0], turn.text[:0]
+	if cap(turn.text) > mostKept {
+		turn.text = nil
+	}
+}
+
+// keep is a copy of a line, for as long as the turn isn't used again.
+func (turn *Turn) keep(line []byte) []byte {
+	from := len(turn.text)
+	turn.text = append(turn.text, line...)
+	return turn.text[from:len(turn.text):len(turn.text)]
+}
 
 // Party is the turns of several clients for whom one goroutine asks. It may be used again and
 // again.
@@ -135,6 +156,7 @@ type Book struct {
 	// Who leads owns these.
 	count  int // of the entries that the guard has
 	buffer []byte
+	made   []int // where the line of each entry ends in the buffer
 	turns  []*Turn
 }
 
@@ -253,14 +275,17 @@ func (turn *Turn) refuse(err error) {
 // commit makes the acts of the turns, and brings their entries to the disk.
 func (book *Book) commit(turns []*Turn) error {
 	var stats Stats
-	book.buffer = book.buffer[:0]
+	book.buffer, book.made = book.buffer[:0], book.made[:0]
 	book.events.look(book.clock.Now())
 	for _, turn := range turns {
-		turn.Answers = turn.Answers[:0]
+		turn.begin()
 		for _, ask := range turn.Asks {
 			answer, err := book.make(ask, &stats)
 			if err != nil {
 				return err
+			}
+			if !answer.Repeated { // Its line stands in the buffer.
+				answer.Line = turn.keep(answer.Line)
 			}
 			turn.Answers = append(turn.Answers, answer)
 		}
@@ -281,7 +306,8 @@ func (book *Book) commit(turns []*Turn) error {
 	return nil
 }
 
-// make makes one act, unless its actor gave its key to an act before.
+// make makes one act, unless its actor gave its key to an act before. The line of a new entry is
+// answered where it stands in the buffer.
 func (book *Book) make(ask Ask, stats *Stats) (Answer, error) {
 	asked, fault := readAsk(ask)
 	if fault != "" {
@@ -297,7 +323,8 @@ func (book *Book) make(ask Ask, stats *Stats) (Answer, error) {
 		stats.Refused++
 		return Answer{Err: fault}, nil
 	}
-	line, err := book.guard.Act(asked.line)
+	before := len(book.buffer)
+	buffer, err := book.guard.Act(book.buffer, asked.line)
 	if err != nil {
 		if fault, is := FaultOf(err); is {
 			stats.Refused++
@@ -307,9 +334,10 @@ func (book *Book) make(ask Ask, stats *Stats) (Answer, error) {
 	}
 	book.events.add(book.count, asked.once)
 	book.count++
-	book.buffer = append(book.buffer, line...)
+	book.buffer = buffer
+	book.made = append(book.made, len(buffer))
 	stats.Made++
-	return Answer{Line: line}, nil
+	return Answer{Line: buffer[before:]}, nil
 }
 
 // unread is the fault of an act with whose entry the audit might not be read again: the guard
@@ -366,10 +394,8 @@ func (book *Book) asks(since time.Time) {
 func (book *Book) publish(stats Stats) {
 	book.lock.Lock()
 	defer book.lock.Unlock()
-	for at, letter := range book.buffer {
-		if letter == '\n' {
-			book.ends = append(book.ends, book.length+int64(at)+1)
-		}
+	for _, end := range book.made {
+		book.ends = append(book.ends, book.length+int64(end))
 	}
 	book.length += int64(len(book.buffer))
 	its := &book.stats

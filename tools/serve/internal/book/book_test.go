@@ -22,12 +22,12 @@ import (
 type guard struct{ scribe.Scribe }
 
 // Act says Syntax as a book wants it.
-func (its *guard) Act(line []byte) ([]byte, error) {
+func (its *guard) Act(text, line []byte) ([]byte, error) {
 	entry, fault := its.Scribe.Act(line)
 	if fault != "" {
-		return nil, Fault(fault)
+		return text, Fault(fault)
 	}
-	return entry, nil
+	return append(text, entry...), nil
 }
 
 // kept is what a test knows of a book.
@@ -66,7 +66,7 @@ func after(audit []byte) (Guard, error) {
 	for _, line := range bytes.SplitAfter(text, []byte("\n")) {
 		if isAudit && len(line) > 0 {
 			act := entries.ReplaceAll(line, []byte(`{"by":$2,"act":$1}`))
-			made, err := its.Act(act)
+			made, err := its.Act(nil, act)
 			isAudit = err == nil && bytes.Equal(made, line)
 		}
 	}
@@ -442,6 +442,49 @@ func TestATurnIsAnsweredInItsOrder(test *testing.T) {
 	_ = book.Close()
 }
 
+func TestAnAnswerStaysWhileOthersAct(test *testing.T) {
+	its := begin(test)
+	book := its.must()
+	first, second := NewTurn(), NewTurn()
+	first.Asks = []Ask{{Line: []byte(up(1, ""))}, {Line: []byte("x")}, {Line: []byte(up(2, ""))}}
+	second.Asks = []Ask{{Line: []byte(up(3, ""))}, {Line: []byte(up(4, ""))}}
+	book.Submit(first)
+	book.Submit(first) // From now on it has the memory that it needs.
+	book.Submit(second)
+	_ = append(first.Answers[0].Line, "more"...)
+	same(test, "the first", string(first.Answers[0].Line), entry(2, 1))
+	same(test, "the last", string(first.Answers[2].Line), entry(3, 2))
+	same(test, "another's", string(second.Answers[0].Line), entry(4, 3))
+	_ = book.Close()
+}
+
+func TestATurnThatAskedMuchHoldsNoMoreThanOthers(test *testing.T) {
+	its := begin(test)
+	book := its.must()
+	turn := NewTurn()
+	for number := 0; number < 500; number++ {
+		turn.Asks = append(turn.Asks, Ask{Line: []byte(up(1, ""))})
+	}
+	book.Submit(turn)
+	same(test, "the last of many", string(turn.Answers[499].Line), entry(499, 1))
+	turn.Asks = turn.Asks[:1]
+	book.Submit(turn)
+	same(test, "the next", string(turn.Answers[0].Line), entry(500, 1))
+	same(test, "it holds little", cap(turn.text) <= mostKept, true)
+	_ = book.Close()
+}
+
+func TestALineThatOnlyLooksLikeOneWithAKeyIsTheGuards(test *testing.T) {
+	its := begin(test)
+	book := its.must()
+	for _, member := range []string{`"since":"k"`, `"\u006fnce":"k"`} {
+		line := strings.Replace(up(1, ""), `{"by":0`, `{"by":0,`+member, 1)
+		same(test, member, ask(book, line).Err, Syntax)
+	}
+	same(test, "the keys", len(book.events.keys), 0)
+	_ = book.Close()
+}
+
 func TestAFullJournalIsAFault(test *testing.T) {
 	its := begin(test)
 	book := its.must()
@@ -750,11 +793,11 @@ func TestTimesHaveThreeDigits(test *testing.T) {
 // panicky is a guard that panics at an act of its process 13.
 type panicky struct{ *guard }
 
-func (its panicky) Act(line []byte) ([]byte, error) {
+func (its panicky) Act(text, line []byte) ([]byte, error) {
 	if bytes.Contains(line, []byte(`{"process":13}`)) {
 		panic("thirteen")
 	}
-	return its.guard.Act(line)
+	return its.guard.Act(text, line)
 }
 
 // mustPanicky opens a book of such a guard.

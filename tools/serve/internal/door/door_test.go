@@ -44,15 +44,15 @@ func entry(web *Web, at int) []byte {
 	return line
 }
 
-func (its *guard) Act(line []byte) ([]byte, error) {
+func (its *guard) Act(text, line []byte) ([]byte, error) {
 	if its.failed != nil {
-		return nil, its.failed
+		return text, its.failed
 	}
 	entry, fault := its.Scribe.Act(line)
 	if fault != "" {
-		return nil, book.Fault(fault)
+		return text, book.Fault(fault)
 	}
-	return entry, nil
+	return append(text, entry...), nil
 }
 
 func (its *guard) ProcessCount() int { return 2 }
