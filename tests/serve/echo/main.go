@@ -1,11 +1,12 @@
-// Command echo answers each line at a Unix socket by the line, behind the header of an audit. It is
-// what tests/serve/speed measures faultyard-serve beside: a server of its shape without a guard.
+// Command echo answers each line at a Unix socket by a line that is as long as an entry, behind the
+// header of an audit. It is what tests/serve/speed measures faultyard-serve beside: a server of its
+// shape without a guard.
 //
 //	echo SOCKET [FILE]
 //	echo ask SOCKET CLIENTS SECONDS
 //
-// With FILE it appends the lines that came together, and answers them once they are on the disk.
-// The second form is the clients of a server.
+// With FILE it appends what it answers to those who came together, and sends it once it is on the
+// disk. The second form is the clients of a server.
 package main
 
 import (
@@ -15,7 +16,11 @@ import (
 	"syscall"
 )
 
-const header = "{\"audit\":2}\n"
+const (
+	header = "{\"audit\":2}\n"
+	// more is what an entry has more than the line of its act.
+	more = `,"at":123456,"reply":{"verdict":{"rule":null,"struck":"Reboot"}}}` + "\n"
+)
 
 func main() {
 	if len(os.Args) == 5 && os.Args[1] == "ask" {
@@ -77,9 +82,9 @@ func watch(poll, descriptor int) error {
 	return syscall.EpollCtl(poll, syscall.EPOLL_CTL_ADD, descriptor, &event)
 }
 
-// batch is what came together: the lines, whose they are, and where each client's end.
+// batch is what came together: the answers, whose they are, and where each client's ends.
 type batch struct {
-	asked         []byte
+	answers       []byte
 	clients, ends []int
 }
 
@@ -93,12 +98,12 @@ func serve(poll int, file *os.File) error {
 		if err != nil && err != syscall.EINTR {
 			return err
 		}
-		its = batch{its.asked[:0], its.clients[:0], its.ends[:0]}
+		its = batch{its.answers[:0], its.clients[:0], its.ends[:0]}
 		for at := 0; at < count; at++ {
 			its.read(int(events[at].Fd), part)
 		}
-		if file != nil && len(its.asked) > 0 {
-			if _, err := file.Write(its.asked); err != nil {
+		if file != nil && len(its.answers) > 0 {
+			if _, err := file.Write(its.answers); err != nil {
 				return err
 			}
 			if err := syscall.Fdatasync(int(file.Fd())); err != nil {
@@ -109,22 +114,23 @@ func serve(poll int, file *os.File) error {
 	}
 }
 
-// read takes in what a client says, or lets it go.
+// read takes in the line that a client says, or lets it go. A client says one, and waits for its
+// answer.
 func (its *batch) read(client int, part []byte) {
 	read, err := syscall.Read(client, part)
-	if err != nil || read == 0 {
+	if err != nil || read < len("}\n") {
 		_ = syscall.Close(client)
 		return
 	}
-	its.asked = append(its.asked, part[:read]...)
-	its.clients, its.ends = append(its.clients, client), append(its.ends, len(its.asked))
+	its.answers = append(append(its.answers, part[:read-len("}\n")]...), more...)
+	its.clients, its.ends = append(its.clients, client), append(its.ends, len(its.answers))
 }
 
-// answer sends each client its lines. One that is gone is let go at the next look.
+// answer sends each client its line. One that is gone is let go at the next look.
 func (its *batch) answer() {
 	from := 0
 	for at, client := range its.clients {
-		_, _ = syscall.Write(client, its.asked[from:its.ends[at]])
+		_, _ = syscall.Write(client, its.answers[from:its.ends[at]])
 		from = its.ends[at]
 	}
 }
