@@ -1,0 +1,3 @@
+pub mod ByCount
+pub mod Electing
+pub mod Numbers
