@@ -323,7 +323,7 @@ func (guard *Guard) AppendAct(text, line []byte) ([]byte, error) {
 	most := len(line) + C.FY_MOST_REPLY
 	answered := text
 	if cap(text)-len(text) < most {
-		answered = append(make([]byte, 0, 2*len(text)+most), text...)
+		answered = append(text, make([]byte, most)...)
 	}
 	answer := answered[len(text) : len(text)+most]
 	var status C.uint32_t
