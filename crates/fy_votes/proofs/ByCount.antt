@@ -31,6 +31,10 @@ record IsNamed (processes : List Locality) (n : ℕ) (s : ℕ → Bool) (name : 
 pub without : (ℕ → Bool) → ℕ → ℕ → Bool
 without s p q = s q && not (eqb q p)
 
+pub without_is : (s : ℕ → Bool) (p q : ℕ) → without s p q ≡ (s q && not (eqb q p))
+unfolding without
+without_is s p q = refl
+
 pub others_stay : (s : ℕ → Bool) (p q : ℕ) → (q ≡ p → ⊥) → s q ≡ without s p q
 unfolding without
 others_stay s p q other = grind (arith, nat_tests)

@@ -1,6 +1,9 @@
 pub mod Counting
 pub mod Elections
+pub mod Forgetting
 pub mod Votes
+pub use Rattle.fy_decide.specs.DeadBook
+pub use Rattle.fy_decide.specs.Safety
 pub use Rattle.fy_locality.specs.Locality
 pub use Rattle.fy_policy.specs.Counted
 pub use Rattle.fy_policy.specs.Sat

@@ -1,5 +1,8 @@
-//! Which processes of a cluster may forget and still vote, so that nobody is elected who lacks an
-//! acknowledged record: a definition and laws.
+//! How much of a cluster may forget and still vote, so that nobody is elected who lacks an
+//! acknowledged record.
 #![tactic(auto)]
 
+mod forgetting;
 pub mod laws;
+
+pub use forgetting::{Forgetting, forgetting_of, forgettings_by_each, forgettings_of};

@@ -1,4 +1,4 @@
-use Rattle.std.proofs.Common.{refl, arith}
+use Rattle.std.proofs.Common.{arith}
 use Rattle.fy_votes.proofs.ByCount.{by_counts, most_may_forget}
 use Rattle.fy_votes.proofs.laws.by_counts.Goals as goal
 
