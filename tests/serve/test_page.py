@@ -30,11 +30,20 @@ class Page(Case):
         beat.start()
         self.addCleanup(beat.stop)
 
+    def show(self, tab, address, **words):
+        """Opens the page, and again where its scripts didn't come: on a busy machine a request of
+        the browser may take longer than the server waits for it."""
+        script = None
+        while script != "function":
+            tab.open(f"http://{address}/", **words)
+            tab.wait("location.href !== 'about:blank' && document.readyState === 'complete'")
+            script = tab.value("typeof enterBy")
+
     def test_seven_tabs_show_the_same(self):
         server = self.server().start()
         tabs = [self.browser.tab() for _ in range(7)]
         for tab in tabs:
-            tab.open(f"http://{server.address}/")
+            self.show(tab, server.address)
         for tab in tabs:
             tab.waits_for("live, 0 entries")
         self.assertEqual(server.ask("POST", "/v1/acts", kill(0, "RebootAndDelete"))[0], 200)
@@ -46,7 +55,7 @@ class Page(Case):
     def test_a_server_that_says_nothing_is_told_since_when(self):
         server = self.server().start()
         tab = self.browser.tab()
-        tab.open(f"http://{server.address}/")
+        self.show(tab, server.address)
         tab.waits_for("live, 0 entries")
         server.process.send_signal(signal.SIGSTOP)
         try:
@@ -64,7 +73,7 @@ class Page(Case):
         for process in range(3):
             server.ask("POST", "/v1/acts", kill(process, "RebootProcess"))
         tab = self.browser.tab()
-        tab.open(f"http://{server.address}/")
+        self.show(tab, server.address)
         tab.wait(f"{LIVE} === 'live, 3 entries' && {ROWS} === 3")
         self.assertEqual(server.end(), 0)
         for path in self.folder.glob("audit*"):
@@ -81,7 +90,7 @@ class Page(Case):
         path.write_text("zero-zero-zero-zero 0\none-one-one-one-one 1\n")
         server = self.server("--tokens", str(path)).start()
         tab = self.browser.tab()
-        tab.open(f"http://{nginx(self, server.address)}/")
+        self.show(tab, nginx(self, server.address))
         tab.wait("document.activeElement.id === 'token'")
         tab.value("document.getElementById('token').value = 'one-one-one-one-one'")
         tab.press("Enter")
@@ -98,7 +107,7 @@ class Page(Case):
         path.write_text(f"{right} 1\n", encoding="utf-8")
         server = self.server("--tokens", str(path)).start()
         tab = self.browser.tab()
-        tab.open(f"http://{server.address}/")
+        self.show(tab, server.address)
         for token, shown in ((f"{right}\u20ac", "doesn't know this token"), (right, "live, 0 ")):
             tab.wait("document.activeElement.id === 'token'")
             tab.value(f"document.getElementById('token').value = {json.dumps(token)}")
@@ -115,7 +124,7 @@ class Page(Case):
         tab.ask("Page.enable")
         without = "delete window.SharedWorker"
         tab.ask("Page.addScriptToEvaluateOnNewDocument", source=without)
-        tab.open(f"http://{server.address}/", width=390)
+        self.show(tab, server.address, width=390)
         tab.waits_for("live, 0 entries")
         tab.waits_for("6 up")
         cells = "[...document.querySelectorAll('#processes .state')]"
