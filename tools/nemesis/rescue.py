@@ -8,6 +8,7 @@ if TYPE_CHECKING:
 
 STANDS = 15.0  # seconds without an acknowledgement after which an operator looks
 LOOKS = 0.5  # seconds between two looks whether a store stands
+SETTLED = 5.0  # seconds for which a process has to run, so that it may be asked how far it is
 
 
 class Rescue:
@@ -52,7 +53,8 @@ class Rescue:
             return False
         records = store.ledger.records
         acked = next(reversed(records.values())).t if records else 0.0
-        return now - max(acked, self._since) > STANDS and all(map(store.runs, store.ledger.able))
+        is_long = now - max(acked, self._since) > STANDS
+        return is_long and all(store.runs_for(number) > SETTLED for number in store.ledger.able)
 
     def end(self) -> None:
         """The store has been read: nothing is to be rescued any more."""

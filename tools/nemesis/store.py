@@ -269,10 +269,11 @@ class Store(Harness):
         for number in processes:
             self.signal(number, signal.SIGSTOP)
 
-    def runs(self, number: int) -> bool:
-        """Whether a process was started, and didn't end since."""
+    def runs_for(self, number: int) -> float:
+        """For how many seconds a process has run since its last start; none where it has ended."""
         process = self._started.get(number)
-        return process is not None and self.elsewhere.runs(process)
+        runs = process is not None and self.elsewhere.runs(process)
+        return clock() - self._began[number] if runs else 0.0
 
     def signal(self, number: int, sent: int) -> None:
         """Sends a signal to all that a process runs."""
