@@ -7,7 +7,7 @@ import (
 	"sync"
 )
 
-// Scribe enters acts, up to Most. It is no guard of a cluster: it bars nothing, and takes those lines
+// Scribe enters acts, up to Most. It is no guard of a cluster: it bars nothing, and takes lines
 // alone that have the actor first.
 type Scribe struct {
 	Most    int
