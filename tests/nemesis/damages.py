@@ -13,7 +13,7 @@ from lab import CLUSTER, ROOT, Case, Ran, ran
 from lab import HOOKS as HOOKS_OF_NONE
 from nemesis import damage, main
 from nemesis.damage import NOTICED, Damage, Pattern
-from toy import Alone, Call, Hook, Leads, Mode, Partial, Spreads, Sums, Toy, ends, hangs
+from toy import Alone, Call, Hook, Leads, Mode, Partial, Slow, Spreads, Sums, Toy, ends, hangs
 
 COUNT, BATCH = max(1, int(os.environ.get("NEMESIS_SEEDS", 60)) // 5), 4
 HOOKS = "start ready whole write read check salvage"
@@ -295,6 +295,15 @@ class Kinds(Case):
                     "the store lost it; the disk of p1 was damaged by entry 0", line["fault"]
                 )
                 self.assertTrue(line["fault"].endswith(f"and then it lacked {told['lacked']}"))
+
+    def test_a_slow_one_is_asked_for_the_damaged_record_first(self) -> None:
+        """It isn't said to have told all, where the time was over before it was asked for all."""
+        it = self.damaged("bits", Alone(), Slow(0.4), status=11)
+        (told,) = it.events("observed")
+        self.assertEqual([*told["wrong"]], [it.events("damage")[0]["record"]])
+        self.assertTrue(0 < told["asked"] < told["acked"], told)
+        count = f"asked for {told['asked']} of {told['acked']} records"
+        self.assertRegex(it.told, f"damage of p1 by bits: served wrong: .*{count}")
 
     def test_a_damage_is_told_of_where_it_is_unknown_who_is_wrong(self) -> None:
         """`read` lacks what `check` tells: as of a store that was split by what a disk forgot."""

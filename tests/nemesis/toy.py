@@ -199,14 +199,22 @@ class Hole(Mode):
         return "none" if member.number == self.number and is_nth(key, self.every) else told
 
 
-class Shy(Mode):
-    """A member takes its time, and tells of a record only where it is asked for it again."""
+class Slow(Mode):
+    """A member takes its time to answer `check`."""
 
     def __init__(self, seconds: float = 0.2) -> None:
-        self.seconds, self.asked = seconds, set[tuple[int, str]]()
+        self.seconds = seconds
 
     def takes(self) -> float:
         return self.seconds
+
+
+class Shy(Slow):
+    """A member takes its time, and tells of a record only where it is asked for it again."""
+
+    def __init__(self, seconds: float = 0.2) -> None:
+        super().__init__(seconds)
+        self.asked = set[tuple[int, str]]()
 
     def tells(self, member: Member, key: str, told: str) -> str:
         is_first = (member.number, key) not in self.asked

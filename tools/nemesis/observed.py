@@ -77,10 +77,10 @@ class Observed:
             self.wrong.setdefault(key, told)
 
     def questions(self) -> Iterator[str]:
-        """All records, those near the damage first; then those that weren't told, or any."""
+        """All records, the damaged one first, and those near it; then any that weren't told."""
         keys, dice = [*self.values], Random(self.entry)
         at = keys.index(self.damage.record) if self.damage.record in self.values else 0
-        first = keys[max(0, at - NEAR) : at + NEAR] + keys[-NEAR:]
+        first = keys[at : at + 1] + keys[max(0, at - NEAR) : at + NEAR] + keys[-NEAR:]
         yield from dict.fromkeys([*first, *dice.sample(keys, len(keys))])
         while True:
             yield from sorted(self.untold | self.lacks) or [dice.choice(keys)]
@@ -141,6 +141,8 @@ class Observed:
         told = [f"{count} {what}" for what, count in counts.items() if count]
         if self.came == Came.REFUSED and self.log:
             told.append(self.log[:120])
+        elif self.asked and len(self.asked) < len(self.values):
+            told.append(f"asked for {len(self.asked)} of {len(self.values)} records")
         elif told:
             told.append(f"of {len(self.values)} records")
         return f"{self.came}{': ' if told else ''}{', '.join(told)}"
