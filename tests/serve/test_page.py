@@ -101,6 +101,19 @@ class Page(Case):
             words = "live, 1 entry" if count == 1 else "live, 2 entries"
             tab.wait(f"{LIVE} === '{words}' && {ROWS} === {count}")
 
+    def test_a_shared_worker_whose_script_does_not_come_is_done_without(self):
+        server = self.server().start()
+        tab = self.browser.tab()
+        tab.ask("Page.enable")
+        lost = "setTimeout(() => this.onerror?.(new Event('error')), 100)"
+        port = "this.port = new MessageChannel().port1"
+        fails = f"window.SharedWorker = class {{ constructor() {{ {lost}; {port}; }} }}"
+        tab.ask("Page.addScriptToEvaluateOnNewDocument", source=fails)
+        self.show(tab, server.address)
+        tab.waits_for("live, 0 entries")
+        server.ask("POST", "/v1/acts", kill(0))
+        tab.wait(f"{LIVE} === 'live, 1 entry' && {ROWS} === 1")
+
     def test_a_token_may_have_any_letters(self):
         right, path = "sechzehn-und-ein-\u20ac", common.written(self.folder, "tokens", "")
         path.chmod(0o600)

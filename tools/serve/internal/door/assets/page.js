@@ -198,18 +198,24 @@ const told = (message) => TOLD[message.kind](message);
 
 /** Has the page told what comes, by the stream of all tabs if there may be one. */
 function connect() {
-  if (!window.SharedWorker) {
-    let leave = () => {};
-    return () => {
-      leave();
-      leave = follow(token, told);
-    };
-  }
-  const { port } = new SharedWorker("page-stream.js", "faultyard");
+  let leave = () => {};
+  const alone = () => {
+    leave();
+    leave = follow(token, told);
+  };
+  if (!window.SharedWorker) return alone;
+  const worker = new SharedWorker("page-stream.js", "faultyard");
+  const { port } = worker;
+  let enter = () => port.postMessage({ token });
+  worker.onerror = () => { // Its script didn't come, as while a proxy finds no server.
+    port.onmessage = null;
+    enter = alone;
+    alone();
+  };
   port.onmessage = ({ data }) => told(data);
   addEventListener("pagehide", () => port.postMessage({ bye: true }));
   addEventListener("pageshow", (event) => event.persisted && port.postMessage({ token }));
-  return () => port.postMessage({ token });
+  return () => enter();
 }
 
 const enterBy = connect();
