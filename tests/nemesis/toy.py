@@ -888,9 +888,9 @@ class Toy(Machine):
 
 
 class Stands(Toy):
-    """A store that stands once two of its members were down at once, until `rescue` is called while
-    all that aren't destroyed run: whoever started since isn't ready, and nothing is written or read.
-    """
+    """A store that stands once two of its members were down at once: who started since isn't ready,
+    and nothing is written or read. It goes on once `rescue` is called, where all that aren't
+    destroyed run."""
 
     stands = False
     ready_before: frozenset[int] = frozenset()

@@ -1,5 +1,5 @@
-"""An operator's help: the hook `rescue` begins a quorum anew, where faults that the guard allows took
-it, as a reboot beside an emptying does."""
+"""An operator's help: the hook `rescue` begins a quorum anew, where faults took it that the guard
+allows, as a reboot beside an emptying does."""
 import asyncio
 from typing import TYPE_CHECKING
 
