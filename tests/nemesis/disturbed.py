@@ -11,9 +11,10 @@ from unittest.mock import patch
 from faultyard import Key, Kind
 from faultyard.plans import Order
 from lab import CLUSTER, HOOKS, Case, Ran
-from nemesis import main, resume
+from nemesis import damage, disturbances, main, resume, risks
 from nemesis.disks import Cut, Disks
-from nemesis.disturbances import Disturbance
+from nemesis.disturbances import Disturbance, latency_of, pairs_of
+from nemesis.links import CALM, Traffic, between
 from toy import Alone, Member, Mode, Toy, now
 
 SLOW = {"what": "disturbance", "kind": "slow-disk", "delay": 0.1, "rate": None}
@@ -241,7 +242,16 @@ class Disturbed(Case):
             (["--plan", "full-disk", "--disks", "ext4"], "--plan full-disk needs --disks lossy"),
             (["--beside", "full-disk", "--disks", "xfs"], "--beside full-disk needs --disks lossy"),
             (["--beside", "partition"], "--plan partition needs --net"),
-            (["--beside", "mixed"], "'mixed' is none of partition, slow-disk, full-disk"),
+            (["--plan", "slow"], "--plan slow needs --net"),
+            (["--beside", "lossy-net"], "--beside lossy-net needs --net"),
+            (["--latency", "20"], "--latency needs --net"),
+            (["--net", "--latency", "5±20"], "'5±20' isn't as 20±5"),
+            (["--net", "--latency", "x"], "--latency"),
+            (["--skew", 0], "--skew"),
+            (
+                ["--beside", "mixed"],
+                "'mixed' is none of partition, slow-disk, full-disk, slow, los",
+            ),
             ([*lossy, "--beside", "slow-disk", "--replay", HOOKS], "--beside has no effect with"),
             ([*lossy, "--kinds", "1,1,1,1,1", "--plan", "slow-disk"], "--kinds has no effect with"),
         ):
@@ -258,6 +268,53 @@ class Disturbed(Case):
         ):
             it = self.ran(*self.file_of(event), toy=Toy(1), status=2)
             self.assertIn(message, it.told)
+
+
+class Ways(Case):
+    """What happens to packets, and which faults the guard is asked of."""
+
+    def test_a_latency_is_in_milliseconds(self) -> None:
+        for text in ("20±5", "20+-5"):
+            self.assertEqual(latency_of(text), Traffic(0.02, 0.005))
+        self.assertEqual(latency_of("7.5"), Traffic(0.0075))
+
+    def test_data_centres_are_apart(self) -> None:
+        slow = Traffic(0.02)
+        three = between(["a", "a", "b"], slow)
+        self.assertEqual(three, dict.fromkeys([(0, 2), (2, 0), (1, 2), (2, 1)], slow))
+        every = {(a, b) for a in range(3) for b in range(3) if a != b}
+        for centres in ([None] * 3, ["a"] * 3):
+            self.assertEqual(between(centres, slow).keys(), every)
+
+    def test_one_behind_the_other(self) -> None:
+        both = Traffic(0.02, 0.01, 0.5, 0.1, 1000) & Traffic(0.01, 0, 0.5, 0.2, 500, True)
+        self.assertEqual(both[:2], (0.03, 0.01))
+        self.assertAlmostEqual(both.loss, 0.75)
+        self.assertAlmostEqual(both.duplicates, 0.28)
+        self.assertEqual(both[4:], (500, True))
+        self.assertEqual(CALM & both, both)
+
+    def test_some_processes_are_disturbed_each_way(self) -> None:
+        out, back = ((0, 1), (0, 2)), ((1, 0), (2, 0))
+        self.assertEqual(pairs_of([0], 3, "out"), out)
+        self.assertEqual(pairs_of([0], 3, "in"), back)
+        self.assertEqual(pairs_of([0], 3, "both"), out + back)
+        its = pairs_of([0, 1, 2], 3, "both")
+        self.assertEqual((len(its), len({*its})), (6, 6))
+
+    def test_the_guard_is_asked_of_what_it_can_bar(self) -> None:
+        """And what destroys is bounded by the policy, or is a control."""
+        for kind in Kind:
+            self.assertTrue(risks.is_asked(Order(kind, Key.PROCESS, "p0")))
+        cut = Order(Kind.CLOG, Key.PROCESS, "ring", cuts=((0, 1),))
+        others = [Disturbance(kind, (0,), 1.0, {}) for kind in disturbances.FORMS]
+        self.assertFalse(any(map(risks.is_asked, [cut, *others])))
+        bounded = risks.Guarded.POLICY, risks.Guarded.CONTROL
+        destroys = ("RebootAndDelete", "KillInstantly", *damage.KINDS)
+        for name, row in risks.FAULTS.items():
+            self.assertEqual(row.guarded in bounded, name in destroys, name)
+        controls = {name for name, row in risks.FAULTS.items() if row.guarded is bounded[1]}
+        self.assertEqual(controls, {"truncate", "rollback"})
 
 
 def now_of(it: Ran, t: float) -> float:

@@ -10,7 +10,7 @@ from faultyard import Key, Kind
 from faultyard.history import Operation
 from faultyard.plans import PAUSES, Order
 
-from . import HOOK, USAGE, Fault, clock
+from . import HOOK, USAGE, Fault, alone, clock, links
 from .clients import Told, pairs
 from .orders import STOPS
 from .traces import traces
@@ -40,12 +40,15 @@ class HookCheck:
         self.healed: list[int] = []  # whose `whole` was believed
         self.copies: dict[int, tuple[Path, Records]] = {}  # of folders, and what they have to have
         self.notes: list[str] = []  # what looks wrong, and may be right
+        self.shaper: list[str] = []  # by what a network is slow and lossy
 
     async def whole(self) -> list[str]:
         """Calls each hook; what looks wrong, and may be right."""
         self.begin()
         await self.some_records()
         await self._calm()
+        if alone.has_net(self.run.words):
+            self.shaper = [await links.told()]
         granted = self.run.file.actors[self.run.fault].kinds
         clog = [Kind.CLOG] if "pause" in self.hooks.names and Kind.CLOG in granted else []
         for number, name in enumerate(self.run.names):
@@ -284,7 +287,7 @@ class HookCheck:
         words, heals = self.run.words, self.run.ledger.healed
         start, heal = max(self.run.starts[self.first :], default=0.0), max(heals, default=0.0)
         told = f"a start took up to {start:.1f} s, a heal up to {heal:.1f} s"
-        return [told, *fitting(start, heal, words.pauses or PAUSES, words.seconds)]
+        return [told, *self.shaper, *fitting(start, heal, words.pauses or PAUSES, words.seconds)]
 
 
 def fitting(start: float, heal: float, pauses: Sequence[float], seconds: float) -> Iterator[str]:

@@ -277,8 +277,8 @@ async def done(*words: object) -> str:
 
 def begun(words: Sequence[str], **more: Any) -> Popen[bytes]:
     """A process that serves the run, and dies with the thread that calls this: the tool's first."""
-    die = partial(die_with, os.getpid())
-    return Popen(words, stdin=DEVNULL, start_new_session=True, preexec_fn=die, **more)
+    die, more = partial(die_with, os.getpid()), {"stdin": DEVNULL} | more
+    return Popen(words, start_new_session=True, preexec_fn=die, **more)
 
 
 def die_with(parent: int) -> None:

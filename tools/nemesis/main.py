@@ -22,7 +22,7 @@ from command_line import Parser
 from config_check.main import explain
 from keeper import adopt_orphans, end_children
 
-from . import alone, disturbances
+from . import alone, disturbances, links
 from . import GUARD, NONE_LOST, TOOL, USAGE, Fault, say, summary
 from . import __doc__ as about
 from .edn import Convert
@@ -62,6 +62,13 @@ def weights(text: str) -> list[float]:
     if len(found) != len(Kind):
         text = f"{len(Kind)} weights are wanted, and {len(found)} are given"
         raise argparse.ArgumentTypeError(text)
+    return found
+
+
+def seconds(text: str) -> float:
+    """More than none."""
+    if not 0 < (found := float(text)) < 1e6:
+        raise ValueError(text)
     return found
 
 
@@ -112,6 +119,11 @@ def parsed(given: Sequence[str] | None = None) -> argparse.Namespace:
     add("--damaged-primary", action="store_true", help=text)
     text = "a host for each process, FY_HOSTS, whose cable a Clog pulls"
     add("--net", action="store_true", help=text)
+    text = "how long each packet takes from one data centre (dcid) to another, as 20±5 ms; or from "
+    text += "each process to each, where there is one or none"
+    add("--latency", type=disturbances.latency_of, metavar="MS±MS", help=text)
+    text = "each clock is off by up to so many seconds, as the seed says"
+    add("--skew", type=seconds, metavar="SECONDS", help=text)
     text = "what a Clog loses with --net: what the process sends, what it gets, or both (both)"
     add("--clog", choices=WAYS, default="both", help=text)
     text = "where each process is reached: HOST:PORT,.. or a file of lines NAME HOST:PORT"
@@ -303,7 +315,7 @@ def main() -> int:
     words = parsed()
     words.parts = words.net and "cut" in listed(words)
     if alone.is_wanted(words) and alone.MARK not in os.environ:
-        if lack := alone.missing(words):
+        if lack := alone.missing(words) or unshaped(words):
             print(f"faultyard-nemesis: {lack}", file=sys.stderr)
             return USAGE
         alone.move(words)
@@ -314,6 +326,12 @@ def main() -> int:
         return ended(words)
     finally:
         end_children()
+
+
+def unshaped(words: argparse.Namespace) -> str | None:
+    """Why the network can't be slow or lossy as the words say, if it can't."""
+    what = disturbances.shapes(words)
+    return links.missing(words, what) if what and alone.has_net(words) else None
 
 
 def ended(
@@ -412,7 +430,7 @@ def report(run: Run, is_read: bool = True) -> int:
     title += f", {run.partitions} partitions" if run.partitions else ""
     title += f", {run.disturbances.count} disturbances" if run.disturbances.count else ""
     lines = run.summary(title) + run.damages.summed() + run.notes + run.power() + after_cuts(run)
-    lines += run.ended_by_themselves()
+    lines += run.ended_by_themselves() + run.own_clocks()
     lacks = not_tested(run) if is_read and not words.check_hooks else []
     lines += map(str, lacks)
     lines += run.stages.told(words.seconds) if is_read and run.is_timed else []

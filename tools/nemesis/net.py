@@ -3,9 +3,11 @@ import asyncio
 import os
 from collections import Counter
 from collections.abc import Sequence
+from itertools import permutations
 from pathlib import Path
 
 from .disks import begun, done
+from .links import Links, Pair
 
 WAYS = ("both", "out", "in")
 GATEWAY = "10.77.255.254"  # where hooks and writers are
@@ -40,6 +42,7 @@ class Net:
         self._out, self._way = out, way
         self._holders: list[int] = []  # processes that hold the namespaces
         self._lost: Counter[str] = Counter()  # how often each element of a set is wanted
+        self.links = Links(out, self.hosts, cable)
 
     async def begin(self) -> None:
         """Lays all cables."""
@@ -58,6 +61,7 @@ class Net:
         rules = self._out / "net.rules"
         rules.write_text(RULES)
         await done("nft", "-f", rules)
+        await self.links.begin()
 
     async def _hold(self) -> int:
         """A process in a network namespace of its own."""
@@ -98,3 +102,10 @@ class Net:
         if changed := sorted(after ^ before):
             deed = "add" if is_added else "delete"
             await done("nft", f"{deed} element bridge fy {which} {{ {', '.join(changed)} }}")
+            await self.links.lose(filter(self._is_lost, permutations(range(len(self.hosts)), 2)))
+
+    def _is_lost(self, way: Pair) -> bool:
+        """Whether what goes a way is lost by these sets."""
+        sender, receiver = map(cable, way)
+        quiet = sender if self._way == "out" else receiver
+        return self._lost[f"{sender} . {receiver}"] > 0 or self._lost[quiet] > 0

@@ -23,6 +23,7 @@ from .evidence import MORE, Case, Course, Disk, Left, told_alone, unwritten, unw
 from .machine import Machine
 from .orders import Orders, Timed
 from .resume import Mark, Past, Words, end_what_runs, events_of, left_of, recall
+from .risks import is_asked
 from .stages import READY, WRITING, Stages
 from .store import AGAIN, Store, cancelled
 from .summary import Amount, failures
@@ -130,6 +131,8 @@ class Run(Store):
             async with where.ending(0 if self.words.attach else len(self.names)):
                 yield
         finally:
+            if self.clocks:
+                self.clocks.end()
             with suppress(Fault):
                 await self.mended()
             if self.words.attach and not self.is_left:
@@ -189,7 +192,7 @@ class Run(Store):
             self.made, self.early = self.made + 1, self.early + bool(self.waiting())
             if isinstance(order, Disturbance):
                 await self.disturbances.begin(order)
-            elif order.cuts:
+            elif not is_asked(order):
                 await self.partition(order)
             elif self.targets(order.key, order.value):  # who is gone can't be struck again
                 await self.obey(self.fault, order.act())

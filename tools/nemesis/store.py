@@ -14,18 +14,20 @@ from contextlib import asynccontextmanager, suppress
 from pathlib import Path
 from typing import Any, cast
 
-from faultyard import ClusterFile, Guard, Kind
+from faultyard import ClusterFile, Guard, Key, Kind
 from faultyard.harness import Harness
 from faultyard.plans import Order
 
 from . import HOOK, USAGE, Fault, alone, clock, clock_ns, say
 from .alone import OWN
+from .clocks import Clocks, library, offsets
 from .crashes import ROUNDS, Crashes, end_of_log, in_words
 from .damage import Damage
 from .disks import Cut, disks_of
-from .disturbances import Disturbances
+from .disturbances import Disturbances, shapes, skews
 from .elsewhere import Elsewhere, Life, Partitions, refused
 from .hooks import End, Hooks
+from .links import Links, between
 from .machine import Machine
 from .net import Net
 from .observed import Damages
@@ -55,7 +57,11 @@ class Store(Harness):
         self.net: Net | Partitions | None = None
         if alone.has_net(words):
             self.net = Net(words.out, count, words.clog)
+            if words.latency:
+                centres = [place.get(Key.DATA_CENTER) for place in file.places]
+                self.net.links.base = between(centres, words.latency)
         self.disks = disks_of(words, count) if words.disks not in (None, OWN) else None
+        self.clocks = Clocks(words.out, offsets(words, count)) if skews(words) else None
         self.cuts: list[tuple[str, Cut]] = []  # whose power was cut, and what that left
         self.words, self._machine = words, machine
         self.hooks = Hooks(words, file, self.ledger, machine, self._places())
@@ -104,6 +110,12 @@ class Store(Harness):
         names = self.hooks.names
         if why := refused(self.words, names, self.file.actors[self.fault].kinds):
             raise Fault(USAGE, why)
+        if (what := shapes(self.words)) and self.words.parts:
+            raise Fault(USAGE, f"{what} is for a network of this tool's own: hooks only cut")
+        if (what := skews(self.words)) and "kill" in names:
+            raise Fault(USAGE, f"{what} is for processes that run below this tool")
+        if what and library() is None:
+            raise Fault(USAGE, f"{what} needs libfaketime, of Debian's faketime")
         if self.words.net and "cut" in names:
             self.net = Partitions(self.elsewhere, len(self.names))
 
@@ -111,6 +123,8 @@ class Store(Harness):
         """Gives each process its host and its disk, where these were asked for."""
         if self.net:
             await self.net.begin()
+        if self.clocks:
+            self.clocks.begin()
         if self.disks and goes_on:
             await self.disks.again(set(range(len(self.names))) - self.emptied)
         elif self.disks:
@@ -327,6 +341,7 @@ class Store(Harness):
         """The words before `start`: where it runs, and what its syncs do."""
         deaf = self.words.deaf_disks and self.words.disks != "lossy"  # which is deaf by itself
         within = self.net.within(number) if self.net else []
+        within += self.clocks.words(number) if self.clocks else []
         return within + ([sys.executable, "-I", "-S", str(DEAF)] if deaf else [])
 
     async def clog(self, processes: Sequence[int], is_clogged: bool) -> None:
@@ -361,6 +376,11 @@ class Store(Harness):
             self.apart -= 1
 
         self.lasting(order.clogged, mend)
+
+    def links(self) -> Links:
+        """What shapes the network, which is the run's own."""
+        assert isinstance(self.net, Net)
+        return self.net.links
 
     def lasting(self, seconds: float, end: Callable[[], Awaitable[None]]) -> None:
         """Has what was begun end after so many seconds, and no later than the orders do."""
@@ -499,6 +519,7 @@ class Store(Harness):
                 self.starts.append(clock() - self._began[number])
                 self.tell_up(number)
                 self.damages.is_up(number)
+                self._look_at_clock(number)
         elif number in self.damages.now:
             await self.damages.ask(number, process)
         elif number in self.ledger.destroyed and self._is_elected():
@@ -508,6 +529,18 @@ class Store(Harness):
                 self.tell_healed(number)
             elif not whole and self.hooks.ends[number].status is not None:  # it didn't hang
                 self._note_no(number, now)
+
+    def _look_at_clock(self, number: int) -> None:
+        """Says whose clock can't be off, which runs now."""
+        if self.clocks and (why := self.clocks.look(number)):
+            self.show(f"{self.names[number]} has this machine's clock: {why}")
+
+    def own_clocks(self) -> list[str]:
+        """Whose clocks can't be off, as lines of the summary."""
+        found: dict[str, list[str]] = {}
+        for number, why in sorted(self.clocks.own.items() if self.clocks else ()):
+            found.setdefault(why, []).append(self.names[number])
+        return [f"this machine's clock for {' '.join(its)}: {why}" for why, its in found.items()]
 
     def _note_no(self, number: int, t: float) -> None:
         """Keeps that a `whole` said no which was called then."""

@@ -9,6 +9,7 @@ from pathlib import Path
 import acts
 import contracts
 import definitions
+import faults
 import header
 import hook_lines
 import layers
@@ -33,6 +34,7 @@ PARTS: tuple[tuple[str, str, Callable[[], str]], ...] = (
     ("docs/ARCHITECTURE.md", "crates", layers.crate_table),
     ("docs/CONTRIBUTING.md", "targets", targets.made),
     ("docs/HOOKS.md", "hooks", hook_lines.made),
+    ("docs/GUARD.md", "faults", faults.made),
     ("docs/FORMATS.md", "acts", acts.acts),
     ("docs/FORMATS.md", "replies", acts.replies),
     ("docs/FORMATS.md", "rules", acts.rules),

@@ -5,9 +5,10 @@ complete -c faultyard-nemesis -l version -d "Print the version"
 complete -c faultyard-nemesis -l seed -x -d "The orders are drawn from this seed"
 complete -c faultyard-nemesis -l seconds -x -d "How long records are written"
 complete -c faultyard-nemesis -l plan -x \
-    -a "mixed attrition swizzle rolling blackout partition slow-disk full-disk" \
-    -d "How orders are drawn"
-complete -c faultyard-nemesis -l beside -x -a "partition slow-disk full-disk" \
+    -a "mixed attrition swizzle rolling blackout partition" -d "How orders are drawn"
+complete -c faultyard-nemesis -l plan -x \
+    -a "slow lossy-net slow-disk full-disk skew" -d "How orders are drawn"
+complete -c faultyard-nemesis -l beside -x -a "partition slow lossy-net slow-disk full-disk skew" \
     -d "What is drawn beside, and destroys nothing"
 complete -c faultyard-nemesis -l kinds -x -d "How often each kind is drawn"
 complete -c faultyard-nemesis -l pauses -x -d "Pauses between orders"
@@ -29,6 +30,8 @@ complete -c faultyard-nemesis -l damage -x \
 complete -c faultyard-nemesis -l damage-seconds -x -d "How long a damaged process is asked"
 complete -c faultyard-nemesis -l damaged-primary -d "A damaged primary keeps its role"
 complete -c faultyard-nemesis -l net -d "A host for each process, whose cable a Clog pulls"
+complete -c faultyard-nemesis -l latency -x -d "How long each packet takes, as 20+-5 ms"
+complete -c faultyard-nemesis -l skew -x -d "Each clock is off by up to so many seconds"
 complete -c faultyard-nemesis -l clog -x -a "both out in" -d "What a Clog loses with --net"
 complete -c faultyard-nemesis -l unguarded -d "Do what was ordered, whatever the guard says"
 complete -c faultyard-nemesis -l check-hooks -d "Call each hook on a calm cluster"
