@@ -146,13 +146,13 @@ def listed(values: Sequence[float], factor: float = 1) -> str:
     return f"{', '.join(texts)} or {last}"
 
 
-SHAPED = f"by the kernel's netem, or else by {' and '.join(f'`{it}`' for it in PROGRAMS)} of vde2"
+SHAPED = f"By the kernel's netem, or else by {' and '.join(f'`{it}`' for it in PROGRAMS)} of vde2"
 ABOUT = {
     "slow-disk": f"each call of a disk takes {listed(CALLS, 1000)} ms more",
     "full-disk": f"{listed(ROOMS)} bytes are left on a disk",
-    "slow": f"packets take {listed(DELAYS, 1000)} ms, a quarter more or less, in order; {SHAPED}",
+    "slow": f"packets take {listed(DELAYS, 1000)} ms, a quarter more or less, in order. {SHAPED}",
     "lossy-net": f"{listed(LOSSES, 100)} % of packets are lost, {listed(DOUBLES, 100)} % doubled, "
-    f"and they overtake within {2000 * OVERTAKES:g} ms; {SHAPED}",
+    f"and they overtake within {2000 * OVERTAKES:g} ms. {SHAPED}",
     "skew": f"a clock jumps by {listed(JUMPS)} s, or goes {listed(SPEEDS)} times as fast. By "
     "libfaketime (Debian's `faketime`), for programs that ask glibc, so for none in Go",
 }
