@@ -9,8 +9,9 @@ KIT = $(dir $(shell rt doc))
 RUSTC = rustc --edition 2024 -C opt-level=3
 
 # What stands before a command that proves or builds.
-NEEDS_RT = @command -v rt > /dev/null || { echo "make $@: there is no rt, the command of the Rattle" \
-	"toolchain; see 'Building, testing, contributing' in README.md" >&2; exit 2; }
+NEEDS_RT = @command -v rt > /dev/null || { \
+	echo "make $@: there is no rt, the command of the Rattle toolchain;" \
+	"see 'Building, testing, contributing' in README.md" >&2; exit 2; }
 
 .PHONY: $(shell sed -n 's/^\([a-z][a-z-]*\):.*/\1/p' Makefile)
 
@@ -143,7 +144,8 @@ lossy: bin/faultyard-lossy
 
 bin/faultyard-lossy: $(wildcard tools/lossy/*.[ch]) crates/faultyard/src/task.rt
 	mkdir -p bin
-	$(CC) -std=gnu11 -D_GNU_SOURCE -DFAULTYARD_VERSION='"$(shell release/version)"' -O2 -Wall -Wextra -Werror $(shell pkg-config --cflags fuse3) \
+	$(CC) -std=gnu11 -D_GNU_SOURCE -DFAULTYARD_VERSION='"$(shell release/version)"' \
+		-O2 -Wall -Wextra -Werror $(shell pkg-config --cflags fuse3) \
 		-o $@ tools/lossy/*.c $(FUSE)
 
 ## tests that disk by thousands of seeds, beside ext4 and xfs, and by longer loads; needs to be root

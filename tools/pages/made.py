@@ -20,8 +20,8 @@ from source import ROOT
 BEGIN = "<!-- begin: {}, made from the source by make pages -->"
 END = "<!-- end of what is made -->"
 
-# Pages that the repository doesn't keep, since the source says nearly all of them, and where the rest
-# of each stands. The site and the packages have them.
+# Pages that the repository doesn't keep, since the source says nearly all of them, and where the
+# rest of each stands. The site and the packages have them.
 UNKEPT = {
     "docs/DEFINITIONS.md": "tools/pages/heads/DEFINITIONS",
     "docs/CONTRACTS.md": "tools/pages/heads/CONTRACTS",

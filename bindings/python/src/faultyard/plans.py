@@ -183,7 +183,7 @@ class Simulated(NamedTuple):
     places: Sequence[Mapping[Key, str]]
     granted: Sequence[Kind]
     pauses: Optional[Sequence[float]] = None
-    """The pauses that are drawn from; of `swizzle` those between its rounds. Else the plan's own."""
+    """The pauses that are drawn from; of `swizzle` those between its rounds. Else the plan's."""
 
     def orders(self) -> Iterator[Order]:
         """The orders, without an end if the actor has one that can be made in `MOST_IDLE` turns."""
