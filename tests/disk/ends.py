@@ -293,6 +293,13 @@ def told_of(words):
     return words[0] if words and words[0] != "what" else "mount|sync|"
 
 
+def told_beside(words):
+    """What else they are told: the word that there isn't."""
+    if words == ["what"]:
+        return "faultyard-lossy: there is no order 'what'\n"
+    return "faultyard-lossy: mount has no option '--what'\n" if "--what" in words else ""
+
+
 def wrong_words(program):
     """Each refusal has its status, and nothing is mounted."""
     with tempfile.TemporaryDirectory() as room:
@@ -322,7 +329,7 @@ def wrong_words(program):
             assert (
                 done.returncode == 2
                 and done.stderr.startswith(f"usage: faultyard-lossy {told_of(words)}")
-                and done.stderr.count("\n") == (2 if words == ["what"] else 1)
+                and done.stderr.partition("\n")[2] == told_beside(words)
                 and not done.stdout
             ), (words, done)
         for words in (

@@ -90,6 +90,7 @@ struct words {
     bool is_deaf, is_foreground;
     double writeback;
     const char *disk, *mount;
+    const char *unknown; // an option that there isn't
 };
 
 static bool read_seconds(const char *text, double *seconds)
@@ -107,13 +108,17 @@ static bool read_words(int count, char **texts, struct words *words)
                                           {NULL, 0, NULL, 0}};
     int found;
     *words = (struct words){.writeback = WRITEBACK};
+    opterr = 0; // it would say `mount:`
     while ((found = getopt_long(count, texts, "f", known, NULL)) != -1) {
         if (found == 'd')
             words->is_deaf = true;
         else if (found == 'f')
             words->is_foreground = true;
-        else if (found != 'w' || !read_seconds(optarg, &words->writeback))
+        else if (found != 'w' || !read_seconds(optarg, &words->writeback)) {
+            if (found == '?' && optopt != 'w') // that one lacks its seconds
+                words->unknown = texts[optind - 1];
             return false;
+        }
     }
     if (count - optind != 2)
         return false;
@@ -138,8 +143,12 @@ static int mount_disk(int count, char **texts)
     struct words words;
     char *folder;
     int status, why;
-    if (!read_words(count, texts, &words))
-        return refuse(texts[0]);
+    if (!read_words(count, texts, &words)) {
+        status = refuse(texts[0]);
+        if (words.unknown)
+            fprintf(stderr, "faultyard-lossy: %s has no option '%s'\n", texts[0], words.unknown);
+        return status;
+    }
     allow_many_files();
     why = disk_open(&disk, words.disk);
     if (why == EBUSY)
