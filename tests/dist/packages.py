@@ -65,7 +65,8 @@ TAKEN = [
     "release",
     "tests/README.md",
     "tools",
-    "crates/faultyard/src/task.rt",
+    "crates",  # of which pages are made
+    "crates.txt",
 ]
 
 
@@ -122,7 +123,7 @@ def copied(name: str) -> Path:
         source, target = ROOT / part, copy / part
         target.parent.mkdir(parents=True, exist_ok=True)
         if source.is_dir():
-            shutil.copytree(source, target, symlinks=True)
+            shutil.copytree(source, target, symlinks=True, ignore=shutil.ignore_patterns("out"))
         else:
             shutil.copy(source, target)
     (copy / ".gitignore").write_text("bin/\ntarget/\n")
