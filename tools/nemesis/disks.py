@@ -192,8 +192,8 @@ class Lossy(Disks):
             pass
         if not os.path.ismount(folder):
             raise Fault(TOOL, f"no disk is mounted at {folder}; {log.name} may say why")
-        for words in self._ordered[number].values():
-            await self._give(number, *words)
+        for name, *more in self._ordered[number].values():
+            await self._give(number, name, *more)
 
     async def _cut(self, number: int, tear: int) -> Cut:
         said = await done(self._program, "cut", self.folder(number), tear)

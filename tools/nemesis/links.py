@@ -330,6 +330,6 @@ def missing(words: Namespace, what: str) -> str | None:
 
 def between(centres: Sequence[str | None], traffic: Traffic) -> dict[Pair, Traffic]:
     """The ways from one data centre to another; all, where there is one or none."""
-    pairs = [*permutations(range(len(centres)), 2)]
+    pairs = [(a, b) for a, b in permutations(range(len(centres)), 2)]
     apart = [(a, b) for a, b in pairs if centres[a] != centres[b]]
     return dict.fromkeys(apart or pairs, traffic)

@@ -160,7 +160,7 @@ def parsed(given: Sequence[str] | None = None) -> argparse.Namespace:
     add("--strict", action="store_true", help=text)
     text = "print the history of a run that has ended as EDN, and do nothing else"
     add("--edn", action=Convert, metavar="FOLDER", help=text)
-    words = it.parse_args(given := with_those_of_a_run(it, given))
+    words: argparse.Namespace = it.parse_args(given := with_those_of_a_run(it, given))
     words.given, words.cwd, words.port = given, os.getcwd(), None
     if words.resume:
         words.port = Words.of(words.resume).port

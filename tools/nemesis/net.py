@@ -102,7 +102,8 @@ class Net:
         if changed := sorted(after ^ before):
             deed = "add" if is_added else "delete"
             await done("nft", f"{deed} element bridge fy {which} {{ {', '.join(changed)} }}")
-            await self.links.lose(filter(self._is_lost, permutations(range(len(self.hosts)), 2)))
+            ways = [(a, b) for a, b in permutations(range(len(self.hosts)), 2)]
+            await self.links.lose(filter(self._is_lost, ways))
 
     def _is_lost(self, way: Pair) -> bool:
         """Whether what goes a way is lost by these sets."""

@@ -135,7 +135,7 @@ class Plans(common.Folder, unittest.TestCase):
 
         file, fault = ClusterFile.read(THREE), 1
         given = {"config": THREE, "replay": None, "check_hooks": False, "pauses": None}
-        given.update(seed=7, tear="draw", seconds=90.0, disks=None, damage=None)
+        given.update(seed=7, tear="draw", seconds=90.0, disks=None, damage=None, beside=[])
         for plan in Plan:
             orders = Orders(Namespace(plan=plan.value, kinds=None, **given), file, fault)
             self.assertEqual(
