@@ -162,7 +162,7 @@ known_task s words known other none =
       )
       | inr (inr (inr (inr (inr (inl guard))))) ↦ inr (
         inr (inr (inr (inr (inl (ap (λ t. t.name) guard))))),
-        config_given s _ words guard ((refl, refl, refl), ((refl, refl, refl), ((refl, refl, refl), tt))) (inl (refl, refl)) refl none,
+        config_given s _ words guard ((refl, refl, refl), ((refl, refl, refl), ((refl, refl, refl), ((refl, refl, refl), tt)))) (inl (refl, refl)) refl none,
         λ seed. absurd (no_seed s.name (codes "guard") (ap (λ t. t.name) guard) (λ e. omega arith) seed),
         λ audit. absurd (no_audit s.name (codes "guard") (ap (λ t. t.name) guard) (λ e. omega arith) audit),
       )
@@ -174,7 +174,7 @@ known_task s words known other none =
       )
       | inr (inr (inr (inr (inr (inr (inr (inl bears))))))) ↦ inr (
         inr (inr (inr (inr (inr (inr (inl (ap (λ t. t.name) bears))))))),
-        config_given s _ words bears ((refl, refl, refl), ((refl, refl, refl), ((refl, refl, refl), ((refl, refl, refl), tt)))) (inl (refl, refl)) refl none,
+        config_given s _ words bears ((refl, refl, refl), ((refl, refl, refl), ((refl, refl, refl), ((refl, refl, refl), ((refl, refl, refl), tt))))) (inl (refl, refl)) refl none,
         λ seed. absurd (no_seed s.name (codes "bears") (ap (λ t. t.name) bears) (λ e. omega arith) seed),
         λ audit. absurd (no_audit s.name (codes "bears") (ap (λ t. t.name) bears) (λ e. omega arith) audit),
       )

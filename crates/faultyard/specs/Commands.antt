@@ -107,14 +107,33 @@ after_rule = record (new_rule (codes "after")) {
   value_names = 1;
 }
 
--- the subcommand `guard`, which takes a cluster file, and may take the audit
-abbrev pub guard_command : App
-guard_command = with_rule (with_rule (new_app (codes "guard")) config_rule) after_rule
+-- the flag `--questions`
+abbrev pub questions_rule : Rule
+questions_rule = record (new_rule (codes "questions")) {
+  long = Some (codes "questions");
+  action = Some SetTrue;
+}
 
--- the subcommand `bears`, which takes a cluster file, and may take the two
+-- the subcommand `guard`, which takes a cluster file, and may take the two
+abbrev pub guard_command : App
+guard_command =
+    with_rule (with_rule (with_rule (new_app (codes "guard")) config_rule) after_rule)
+    questions_rule
+
+-- the option `--elections`, which has a policy's text
+abbrev pub elections_rule : Rule
+elections_rule = record (new_rule (codes "elections")) {
+  long = Some (codes "elections");
+  action = Some Set;
+  value_names = 1;
+}
+
+-- the subcommand `bears`, which takes a cluster file, and may take the three
 abbrev pub bears_command : App
 bears_command =
-    with_rule (with_rule (with_rule (new_app (codes "bears")) config_rule) json_rule) after_rule
+    with_rule
+    (with_rule (with_rule (with_rule (new_app (codes "bears")) config_rule) json_rule) after_rule)
+    elections_rule
 
 -- the option `--audit`, which has to be there and has the file of an audit
 abbrev pub audit_rule : Rule
@@ -208,16 +227,18 @@ StandsFor met (Simulate config seed acts plan) =
     × (option_map seed_in (one_of (codes "seed") met.1) ≡ Some seed)
     × IsActsOf (one_of (codes "acts") met.1) acts
     × IsPlanOf (first_of (codes "plan") met.1) plan
-StandsFor met (Guard config after) =
+StandsFor met (Guard config after questions) =
     (met.0 ≡ codes "guard") × (first_of (codes "CONFIG") met.1 ≡ Some config.now)
     × (option_map (λ audit. audit.now) after ≡ first_of (codes "after") met.1)
+    × IsSetOf (first_of (codes "questions") met.1) questions
 StandsFor met (Show config times) =
     (met.0 ≡ codes "show") × (first_of (codes "CONFIG") met.1 ≡ Some config.now)
     × (option_map (λ events. events.now) times ≡ first_of (codes "times") met.1)
-StandsFor met (Bears config form after) =
+StandsFor met (Bears config form after elections) =
     (met.0 ≡ codes "bears") × (first_of (codes "CONFIG") met.1 ≡ Some config.now)
     × IsFormOf (first_of (codes "json") met.1) form
     × (option_map (λ audit. audit.now) after ≡ first_of (codes "after") met.1)
+    × (option_map (λ policy. policy.now) elections ≡ first_of (codes "elections") met.1)
 StandsFor met (Verdict config audit fresh) =
     (met.0 ≡ codes "verdict") × (first_of (codes "CONFIG") met.1 ≡ Some config.now)
     × (first_of (codes "audit") met.1 ≡ Some audit.now)

@@ -19,6 +19,7 @@ use fy_histories::{HistoriesStop, write_histories_stop};
 use fy_judge::run_judge;
 use fy_linear::run_linear;
 use fy_players::Plan;
+use fy_policy::{Policy, PolicyFault, read_policy};
 use fy_run::run_script;
 use fy_show::{run_show, run_show_by_time};
 use fy_simulate::run_simulate;
@@ -29,7 +30,7 @@ use fy_verdict::{Outcome, run_verdict};
 use std::fs::File;
 use std::io::{BufReader, ErrorKind, Seek};
 use std::process::ExitCode;
-use std::{env, fs};
+use std::{env, fs, slice};
 use task::{Task, read_task};
 
 /// The status of a program whose words are no command.
@@ -60,6 +61,12 @@ const NO_PLAN: &str = "error: invalid value for '--plan <PLAN>'
 
 For more information, try '--help'.";
 
+/// What is said of a text that is no policy.
+const NO_POLICY: &str = "error: invalid value for '--elections <POLICY>'
+  [a policy, as Across(3,processid,One())]
+
+For more information, try '--help'.";
+
 fn main(rt: HostRuntime) -> ExitCode {
     let words = match arguments(&rt) {
         Ok(words) => words,
@@ -73,10 +80,15 @@ fn main(rt: HostRuntime) -> ExitCode {
             simulate_file(&rt, path, seed, acts, plan)
         }
         Ok(Task::Simulate(_, _, _, None)) => return unplanned(&rt),
-        Ok(Task::Guard(path, None)) => guard_file(&rt, path),
-        Ok(Task::Guard(path, Some(after))) => return guard_after(&rt, path, after),
+        Ok(Task::Guard(path, None, questions)) => guard_file(&rt, path, questions),
+        Ok(Task::Guard(path, Some(after), questions)) => {
+            return guard_after(&rt, path, after, questions);
+        }
         Ok(Task::Show(path, times)) => show_file(&rt, path, times),
-        Ok(Task::Bears(path, form, after)) => bears_file(&rt, path, form, after),
+        Ok(Task::Bears(path, form, after, None)) => bears_file(&rt, path, form, after, &[]),
+        Ok(Task::Bears(path, form, after, Some(elections))) => {
+            return bears_elections(&rt, path, form, after, elections);
+        }
         Ok(Task::Verdict(path, audit, fresh)) => {
             return judged(&rt, verdict_file(&rt, path, audit), fresh);
         }
@@ -143,18 +155,45 @@ fn show_file(rt: &HostRuntime, path: &str, times: Option<&str>) -> Result<bool, 
     run_show_by_time(alloc, &config, &mut input, &mut events, &mut output)
 }
 
-/// Says what the cluster of a file bears, after an audit where one is named.
-fn bears_file(rt: &HostRuntime, path: &str, form: Form, after: Option<&str>) -> Result<bool, Stop> {
+/// Says what the cluster of a file bears, after an audit where one is named, and by each policy of
+/// elections what may forget.
+fn bears_file(
+    rt: &HostRuntime,
+    path: &str,
+    form: Form,
+    after: Option<&str>,
+    elections: &[Policy],
+) -> Result<bool, Stop> {
     let config = open_config(rt, path)?;
+    let (alloc, mut output) = (rt.alloc(), rt.stdout());
     let Some(after) = after else {
-        return run_bears(rt.alloc(), &config, &form, &mut rt.stdout());
+        return run_bears(alloc, &config, elections, &form, &mut output);
     };
     let mut audit = open_file(rt, after)?;
-    run_bears_after(rt.alloc(), &config, &form, &mut audit, &mut rt.stdout())
+    run_bears_after(alloc, &config, elections, &form, &mut audit, &mut output)
 }
 
-/// Answers the script on standard input, line by line, on the cluster of a file.
-fn guard_file(rt: &HostRuntime, path: &str) -> Result<bool, Stop> {
+/// Says so by the policy of elections that a text says, and gives the status to end with.
+fn bears_elections(
+    rt: &HostRuntime,
+    path: &str,
+    form: Form,
+    after: Option<&str>,
+    elections: &str,
+) -> ExitCode {
+    match read_policy(rt.alloc(), elections) {
+        Ok(policy) => {
+            let policies = slice::from_ref(&policy);
+            ended(rt, bears_file(rt, path, form, after, policies))
+        }
+        Err(PolicyFault::NoMemory) => stopped(rt, Stop::NoMemory),
+        Err(_) => unread_policy(rt),
+    }
+}
+
+/// Answers the script on standard input, line by line, on the cluster of a file, with its questions
+/// where it may have some.
+fn guard_file(rt: &HostRuntime, path: &str, questions: bool) -> Result<bool, Stop> {
     let config = open_config(rt, path)?;
     let alloc = rt.alloc();
     // It holds what `read` gave beyond a line, and waits for no more than there is. Its making
@@ -162,11 +201,11 @@ fn guard_file(rt: &HostRuntime, path: &str) -> Result<bool, Stop> {
     let Ok(mut lines) = BufReader::new(alloc, rt.stdin()) else {
         return Err(Stop::NoMemory);
     };
-    run_guard(alloc, &config, &mut lines, &mut rt.stdout())
+    run_guard(alloc, &config, questions, &mut lines, &mut rt.stdout())
 }
 
 /// Answers that script from the end of the audit in a file on, and gives the status to end with.
-fn guard_after(rt: &HostRuntime, path: &str, after: &str) -> ExitCode {
+fn guard_after(rt: &HostRuntime, path: &str, after: &str, questions: bool) -> ExitCode {
     let config = match open_config(rt, path) {
         Ok(config) => config,
         Err(stop) => return stopped(rt, stop),
@@ -184,6 +223,7 @@ fn guard_after(rt: &HostRuntime, path: &str, after: &str) -> ExitCode {
     let done = run_guard_after(
         alloc,
         &config,
+        questions,
         &mut audit,
         &mut lines,
         &mut output,
@@ -331,6 +371,14 @@ fn unplanned(rt: &HostRuntime) -> ExitCode
     ensures { exit_status result ≡ 2 }
 {
     let _ = rt.eprintln(NO_PLAN);
+    ExitCode::from(USAGE)
+}
+
+/// Says that the text is no policy.
+fn unread_policy(rt: &HostRuntime) -> ExitCode
+    ensures { exit_status result ≡ 2 }
+{
+    let _ = rt.eprintln(NO_POLICY);
     ExitCode::from(USAGE)
 }
 

@@ -9,7 +9,7 @@ ghost use Rattle.faultyard.specs.Commands.{IsTaskOf, faultyard_command, bare_com
 ghost use Rattle.faultyard.specs.Commands.{config_rule, run_command, check_command};
 ghost use Rattle.faultyard.specs.Commands.{seed_rule, swarm_command, guard_command, show_command, IsSeed, seed_in};
 ghost use Rattle.faultyard.specs.Commands.{acts_rule, plan_rule, simulate_command, IsActsOf, IsPlanOf};
-ghost use Rattle.faultyard.specs.Commands.{times_rule, json_rule, after_rule, bears_command, IsFormOf};
+ghost use Rattle.faultyard.specs.Commands.{times_rule, json_rule, after_rule, elections_rule, questions_rule, bears_command, IsFormOf};
 ghost use Rattle.faultyard.specs.Commands.{audit_rule, fresh_rule, verdict_command, linear_command, IsSetOf};
 
 use clap::{Arg, ArgAction, ArgMatches, Command, value_parser};
@@ -72,14 +72,16 @@ pub enum Task<'a> {
     /// one of that name.
     Simulate(&'a str, u64, u64, Option<Plan>),
     /// `faultyard guard CONFIG`: answer each line of the script on standard input at once, on the
-    /// cluster of a file, with `--after AUDIT` from the end of an audit on.
-    Guard(&'a str, Option<&'a str>),
+    /// cluster of a file, with `--after AUDIT` from the end of an audit on, and with `--questions`
+    /// questions too.
+    Guard(&'a str, Option<&'a str>, bool),
     /// `faultyard show CONFIG`: draw the audit on standard input on the cluster of a file, with
     /// `--times EVENTS` by the times of a file of events.
     Show(&'a str, Option<&'a str>),
     /// `faultyard bears CONFIG`: say what the cluster of a file bears, with `--json` in that form,
-    /// and with `--after AUDIT` from the end of an audit on.
-    Bears(&'a str, Form, Option<&'a str>),
+    /// with `--after AUDIT` from the end of an audit on, and with `--elections POLICY` what may
+    /// forget.
+    Bears(&'a str, Form, Option<&'a str>, Option<&'a str>),
     /// `faultyard verdict CONFIG --audit FILE`: say what became of each record of the history on
     /// standard input, of a run on the cluster of a file with this audit, and with `--fresh` that
     /// no record may be stale.
@@ -217,7 +219,19 @@ fn guard<'a>(alloc: Global) -> Result<Command<'a>, AllocError>
         .arg(after(
             alloc,
             "The audit, a file, behind whose last entry the guard goes on",
-        ))
+        ))?
+        .arg(questions(alloc))
+}
+
+/// The flag that lines may be questions.
+fn questions<'a>(alloc: Global) -> Arg<'a>
+    ensures rule { rule_of result ≡ questions_rule }
+    ensures own { result.global ≡ false }
+{
+    Arg::new(alloc, "questions")
+        .long("questions")
+        .action(ArgAction::SetTrue)
+        .help("Answers questions too: a line {\"ask\":..} with a line {\"told\":..}")
 }
 
 /// The option with the file of events.
@@ -268,9 +282,23 @@ fn after<'a>(alloc: Global, help: &'static str) -> Arg<'a>
         .help(help)
 }
 
-/// The subcommand `bears`, with its help.
-fn bears<'a>(alloc: Global) -> Result<Command<'a>, AllocError>
-    ensures { IfOk result (λ command. app_of command ≡ bears_command) }
+/// The option with the policy of elections.
+fn elections<'a>(alloc: Global) -> Arg<'a>
+    ensures rule { rule_of result ≡ elections_rule }
+    ensures own { result.global ≡ false }
+{
+    Arg::new(alloc, "elections")
+        .long("elections")
+        .value_name("POLICY")
+        .action(ArgAction::Set)
+        .help("The policy that the voters for a leader satisfy: tells what may forget")
+}
+
+/// The subcommand `bears` with its help, and of its arguments those that need no second file or
+/// policy.
+fn bears_in_form<'a>(alloc: Global) -> Result<Command<'a>, AllocError>
+    ensures { IfOk result (λ command. app_of command
+        ≡ with_rule (with_rule (new_app (codes "bears")) config_rule) json_rule) }
 {
     Command::new(alloc, "bears")
         .about("Says how many processes, and which machines and zones, a cluster can lose")
@@ -278,11 +306,19 @@ fn bears<'a>(alloc: Global) -> Result<Command<'a>, AllocError>
             "Example:\n  faultyard bears examples/c6.toml --after examples/two-zones.audit"
         ))
         .arg(config(alloc))?
-        .arg(json(alloc))?
+        .arg(json(alloc))
+}
+
+/// The subcommand `bears`, with its help.
+fn bears<'a>(alloc: Global) -> Result<Command<'a>, AllocError>
+    ensures { IfOk result (λ command. app_of command ≡ bears_command) }
+{
+    bears_in_form(alloc)?
         .arg(after(
             alloc,
             "The audit, a file, from whose last entry on losses are counted",
-        ))
+        ))?
+        .arg(elections(alloc))
 }
 
 /// The option with the file of the audit that the history was recorded beside.
@@ -391,10 +427,21 @@ pub fn read_task<'a>(alloc: Global, words: &'a [String]) -> Result<Task<'a>, cla
                 plan_of(given),
             ))
         }
-        "guard" => Ok(Task::Guard(config_of(given), after_of(given))),
+        "guard" => Ok(Task::Guard(
+            config_of(given),
+            after_of(given),
+            is_set(given, "questions"),
+        )),
         "show" => Ok(Task::Show(config_of(given), times_of(given))),
-        "bears" => Ok(Task::Bears(config_of(given), form_of(given), after_of(given))),
-        "verdict" => Ok(Task::Verdict(config_of(given), audit_of(given), is_fresh(given))),
+        "bears" => {
+            Ok(Task::Bears(
+                config_of(given),
+                form_of(given),
+                after_of(given),
+                elections_of(given),
+            ))
+        }
+        "verdict" => Ok(Task::Verdict(config_of(given), audit_of(given), is_set(given, "fresh"))),
         "linear" => Ok(Task::Linear),
         _ => unreachable!(),
     }
@@ -462,6 +509,14 @@ fn after_of<'a>(given: &ArgMatches<'a>) -> Option<&'a str>
     given.get_str("after")
 }
 
+/// The policy of elections among the words of a subcommand, if one is named.
+fn elections_of<'a>(given: &ArgMatches<'a>) -> Option<&'a str>
+    ensures { option_map (λ policy. policy.now) result
+        ≡ first_of (codes "elections") (rows_of (found_of given.now)) }
+{
+    given.get_str("elections")
+}
+
 /// The audit among the words of a subcommand that takes one.
 fn audit_of<'a>(given: &ArgMatches<'a>) -> &'a str
     requires { is_some (first_of (codes "audit") (rows_of (found_of given.now))) ≡ true }
@@ -473,11 +528,11 @@ fn audit_of<'a>(given: &ArgMatches<'a>) -> &'a str
     }
 }
 
-/// Whether the words of a subcommand say that no record may be stale.
-fn is_fresh(given: &ArgMatches<'_>) -> bool
-    ensures { IsSetOf (first_of (codes "fresh") (rows_of (found_of given.now))) result }
+/// Whether a flag is among the words of a subcommand.
+fn is_set(given: &ArgMatches<'_>, flag: &str) -> bool
+    ensures { IsSetOf (first_of flag.now (rows_of (found_of given.now))) result }
 {
-    match given.get_str("fresh") {
+    match given.get_str(flag) {
         Some("true") => true,
         _ => false,
     }

@@ -1,5 +1,5 @@
 -- what a cluster answers to a line of a script
-use Rattle.std.specs.Prelude.{◌≡◌, ◌<◌, ◌≤◌, ℕ, List, length, Ok, Err}
+use Rattle.std.specs.Prelude.{◌≡◌, ◌<◌, ◌≤◌, ℕ, List, [], ◌∷◌, ◌++◌, length, Ok, Err}
 use Rattle.fy_acts.specs.declared.act.Act.{Act}
 use Rattle.fy_spelling.specs.Command.{LineOf}
 use Rattle.fy_spelling.specs.declared.command.Command.{Command}
@@ -7,6 +7,13 @@ use Rattle.fy_spelling.specs.declared.command.TheConstants.{MOST_LINE_BYTES}
 use Rattle.fy_spelling.specs.declared.command.CommandFault.{CommandFault}
 use Rattle.fy_spelling.specs.declared.command.CommandFault.TheVariants as reading
 use Rattle.fy_spelling.specs.declared.command.LineFault.{LineFault}
+use Rattle.fy_lines.specs.Lines.{IsLine}
+use Rattle.fy_asking.specs.Asks.{AskOf}
+use Rattle.fy_asking.specs.Requests.{RequestOf}
+use Rattle.fy_asking.specs.ToldTexts.{IsToldLine}
+use Rattle.fy_questions.specs.Told.{IsTold}
+use Rattle.fy_questions.specs.declared.question.Question.{Question}
+use Rattle.fy_questions.specs.declared.told.Told.{Told}
 use Rattle.fy_audit.specs.AuditText.{entry_line}
 use Rattle.fy_cluster.specs.Execution.{Execution, next_entry, entered}
 use Rattle.fy_cluster.specs.Survival.{Survives}
@@ -70,3 +77,35 @@ pub data HasNoAnswer (old new : Execution) (line : List ℕ) (room : ℕ) : Answ
   no_entry : (command : Command) → LineOf line (Ok command) → (fault : AnswerFault) →
       HasNoEntry old new command.by command.act room fault →
       HasNoAnswer old new line room fault
+
+-- ---- lines that may be questions
+
+-- the text is one line with its line feed
+abbrev pub EndsLine : List ℕ → Type 0
+EndsLine text = (line : List ℕ) × IsLine line × (text ≡ line ++ 10 ∷ [])
+
+-- a line is a question, which changes nothing, and is answered by the line of what is told
+pub record IsAnsweredAsk (old new : Execution) (line text : List ℕ) : Type 0 where
+  pub question : Question
+  pub asked : AskOf line (Ok question)
+  pub told : Told
+  pub is_told : IsTold old question told
+  pub told_line : List ℕ
+  pub spelled : IsToldLine old.setup told told_line
+  pub text_is : text ≡ told_line ++ 10 ∷ []
+  pub same : new ≡ old
+
+-- a line is answered by a text: as an act, or as a question
+pub data IsHandled (old new : Execution) (line text : List ℕ) : Type 0 where
+  acted : IsAnswered old new line text → IsHandled old new line text
+  asked : IsAnsweredAsk old new line text → IsHandled old new line text
+
+-- a line has no answer: it is neither a command nor a question, an allocation failed before
+-- anything changed, or its command has no entry or no line for that
+pub data IsUnhandled (old new : Execution) (line : List ℕ) (room : ℕ) : AnswerFault → Type 0 where
+  faulty : (fault : LineFault) → RequestOf line (Err fault) → new ≡ old →
+      IsUnhandled old new line room (Line fault)
+  no_memory : length line ≤ MOST_LINE_BYTES → new ≡ old → IsUnhandled old new line room NoMemory
+  no_entry : (command : Command) → LineOf line (Ok command) → (fault : AnswerFault) →
+      HasNoEntry old new command.by command.act room fault →
+      IsUnhandled old new line room fault

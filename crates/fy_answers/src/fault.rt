@@ -1,6 +1,7 @@
 //! Why a line of a script has no answer.
 use fy_cluster::Fault;
 use fy_spelling::{CommandFault, LineFault};
+use std::alloc::AllocError;
 
 /// Why a line of a script has no answer.
 #[derive(Clone, Copy, PartialEq, Eq, Debug)]
@@ -40,5 +41,16 @@ impl From<Fault> for AnswerFault {
             Fault::JournalFull => AnswerFault::JournalFull,
             Fault::NoMemory => AnswerFault::NoMemory,
         }
+    }
+}
+
+impl From<AllocError> for AnswerFault {
+    ghost use Rattle.std.specs.Prelude.{◌≡◌};
+    ghost use Rattle.fy_answers.specs.declared.fault.AnswerFault.TheVariants.{NoMemory};
+
+    ghost from_gives = { λ _ answer. answer ≡ NoMemory };
+
+    fn from(_refused: AllocError) -> AnswerFault {
+        AnswerFault::NoMemory
     }
 }

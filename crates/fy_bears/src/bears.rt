@@ -18,6 +18,7 @@ use fy_audit::MOST_AUDIT_BYTES;
 use fy_check::{replay_audit, write_finding};
 use fy_cluster::Config;
 use fy_lines::write_bytes;
+use fy_policy::Policy;
 use fy_streams::Stop;
 use std::alloc::Global;
 use std::io::{Read, Write};
@@ -26,25 +27,29 @@ use std::io::{Read, Write};
 fn write_told<S: Spelling, W: Write>(
     alloc: Global,
     config: &Config,
+    elections: &[Policy],
     told: &Told,
     form: &S,
     writer: &mut W,
 ) -> Result<(), Stop>
-    ensures written { OnOk result (IsSpelledOut (S.spells form.now config.now told.now)
+    ensures written { OnOk result
+        (IsSpelledOut (S.spells form.now config.now elections.now told.now)
         (Appends (W.contents writer.old) (W.contents writer.new))) }
-    ensures short { result ≡ Err Stop.Write → IsSpelledOut (S.spells form.now config.now told.now)
+    ensures short { result ≡ Err Stop.Write →
+        IsSpelledOut (S.spells form.now config.now elections.now told.now)
         (AppendsProperPrefix (W.contents writer.old) (W.contents writer.new)) }
     ensures nothing_out { IfErr result (λ stop. stop ≢ Stop.Write →
         W.contents writer.new ≡ W.contents writer.old) }
     ensures no_other { IfErr result IsOutputStop }
 {
-    let text = form.spell(alloc, config, told)?;
+    let text = form.spell(alloc, config, elections, told)?;
     write_bytes(writer, text.as_bytes())?;
     Ok(())
 }
 
-/// Writes what a cluster bears from its start on, when nothing is lost yet. An `Ok` is always
-/// `true`: `run_bears_after` says `false` of an audit that isn't legal.
+/// Writes what a cluster bears from its start on, when nothing is lost yet, and by each policy of
+/// elections what may forget. An `Ok` is always `true`: `run_bears_after` says `false` of an audit
+/// that isn't legal.
 ///
 /// # Errors
 ///
@@ -53,27 +58,32 @@ fn write_told<S: Spelling, W: Write>(
 pub fn run_bears<S: Spelling, W: Write>(
     alloc: Global,
     config: &Config,
+    elections: &[Policy],
     form: &S,
     writer: &mut W,
 ) -> Result<bool, Stop>
     ensures done { IfOk result (λ done. done ≡ true) }
-    ensures written { OnOk result (Tells (IsToldAtStart config.now) (S.spells form.now config.now)
+    ensures written { OnOk result
+        (Tells (IsToldAtStart config.now elections.now)
+        (S.spells form.now config.now elections.now)
         (Appends (W.contents writer.old) (W.contents writer.new))) }
     ensures short { result ≡ Err Stop.Write →
-        Tells (IsToldAtStart config.now) (S.spells form.now config.now)
+        Tells (IsToldAtStart config.now elections.now)
+        (S.spells form.now config.now elections.now)
         (AppendsProperPrefix (W.contents writer.old) (W.contents writer.new)) }
     ensures nothing_out { IfErr result (λ stop. stop ≢ Stop.Write →
         W.contents writer.new ≡ W.contents writer.old) }
     ensures no_other { IfErr result IsOutputStop }
 {
-    let told = told_at_start(alloc, config)?;
-    write_told(alloc, config, &told, form, writer)?;
+    let told = told_at_start(alloc, config, elections)?;
+    write_told(alloc, config, elections, &told, form, writer)?;
     Ok(true)
 }
 
 /// Reads an audit from the reader to its end, checks it, and writes what the cluster bears from
-/// its last entry on. Where an entry isn't what the rules give, the line of `run_check` is written
-/// in place of that. The answer is whether the audit is legal.
+/// its last entry on, and by each policy of elections what may forget. Where an entry isn't what
+/// the rules give, the line of `run_check` is written in place of that. The answer is whether the
+/// audit is legal.
 ///
 /// All is read and checked before the first byte is written.
 ///
@@ -84,6 +94,7 @@ pub fn run_bears<S: Spelling, W: Write>(
 pub fn run_bears_after<S: Spelling, R: Read, W: Write>(
     alloc: Global,
     config: &Config,
+    elections: &[Policy],
     form: &S,
     reader: &mut R,
     writer: &mut W,
@@ -91,7 +102,8 @@ pub fn run_bears_after<S: Spelling, R: Read, W: Write>(
     ensures done { IfOk result (λ legal. IfSome (R.remaining reader.old)
         (λ bytes. IsChecked config.now bytes legal)) }
     ensures written { result ≡ Ok true → IfSome (R.remaining reader.old)
-        (λ bytes. Tells (IsToldOf config.now bytes) (S.spells form.now config.now)
+        (λ bytes. Tells (IsToldOf config.now elections.now bytes)
+        (S.spells form.now config.now elections.now)
         (Appends (W.contents writer.old) (W.contents writer.new))) }
     ensures refuted { result ≡ Ok false → HasVerdict config.now (R.remaining reader.old) false
         (Appends (W.contents writer.old) (W.contents writer.new)) }
@@ -102,7 +114,8 @@ pub fn run_bears_after<S: Spelling, R: Read, W: Write>(
         HasVerdict config.now (R.remaining reader.old) false
         (AppendsProperPrefix (W.contents writer.old) (W.contents writer.new))
         ⊎ IfSome (R.remaining reader.old)
-        (λ bytes. Tells (IsToldOf config.now bytes) (S.spells form.now config.now)
+        (λ bytes. Tells (IsToldOf config.now elections.now bytes)
+        (S.spells form.now config.now elections.now)
         (AppendsProperPrefix (W.contents writer.old) (W.contents writer.new))) }
     ensures no_other { IfErr result IsCheckStop }
     ensures read_fault { result ≡ Err Stop.Read →
@@ -115,7 +128,7 @@ pub fn run_bears_after<S: Spelling, R: Read, W: Write>(
     if finding.first_bad.is_some() {
         return write_finding(finding, writer);
     }
-    let told = told_after(alloc, &audit)?;
-    write_told(alloc, config, &told, form, writer)?;
+    let told = told_after(alloc, &audit, elections)?;
+    write_told(alloc, config, elections, &told, form, writer)?;
     Ok(true)
 }

@@ -2,6 +2,7 @@
 #![tactic(auto)]
 
 mod bears;
+mod forgetting;
 mod lost;
 mod spelling;
 mod told;

@@ -2,8 +2,10 @@
 //! is told and from nothing else. How the two forms of `bears` spell is only tested.
 ghost use Rattle.std.specs.Prelude.{IfOk, string_bytes};
 
+use crate::forgetting::push_forgetting;
 use crate::told::Told;
 use fy_cluster::Config;
+use fy_policy::Policy;
 use fy_tolerance::{Form, write_findings};
 use std::alloc::{AllocError, Global};
 
@@ -12,25 +14,43 @@ pub trait Spelling {
     ghost use Rattle.std.specs.Prelude.{ℕ, List};
     ghost use Rattle.fy_bears.specs.declared.told.Told.{Told};
     ghost use Rattle.fy_cluster.specs.Setup.{Setup};
+    ghost use Rattle.fy_policy.specs.Tree.{Tree};
 
-    ghost spells: { Self → Setup → Told → List ℕ → Type 0 };
+    ghost spells: { Self → Setup → List Tree → Told → List ℕ → Type 0 };
 
-    /// A text that stands for what is told of a configuration's cluster.
+    /// A text that stands for what is told of a configuration's cluster, by policies of elections.
     ///
     /// # Errors
     ///
     /// An allocation failed.
-    fn spell(&self, alloc: Global, config: &Config, told: &Told) -> Result<String, AllocError>
-        ensures { IfOk result (λ text. spells self.now config.now told.now (string_bytes text)) };
+    fn spell(
+        &self,
+        alloc: Global,
+        config: &Config,
+        elections: &[Policy],
+        told: &Told,
+    ) -> Result<String, AllocError>
+        ensures { IfOk result (λ text. spells self.now config.now elections.now told.now
+            (string_bytes text)) };
 }
 
 impl Spelling for Form {
     // No definition says what the two forms are.
-    ghost spells = { λ _ _ _ _. Unit };
+    ghost spells = { λ _ _ _ _ _. Unit };
 
-    fn spell(&self, alloc: Global, config: &Config, told: &Told) -> Result<String, AllocError> {
+    fn spell(
+        &self,
+        alloc: Global,
+        config: &Config,
+        elections: &[Policy],
+        told: &Told,
+    ) -> Result<String, AllocError> {
         let (map, policies) = (config.map(), config.policies());
         let before = told.before.as_ref();
-        write_findings(alloc, map, policies, before, &told.findings, *self)
+        let mut text = write_findings(alloc, map, policies, before, &told.findings, *self)?;
+        if !elections.is_empty() {
+            push_forgetting(alloc, &mut text, config, elections, &told.forgetting, *self)?;
+        }
+        Ok(text)
     }
 }

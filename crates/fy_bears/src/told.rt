@@ -9,15 +9,19 @@ use crate::lost::losses_in;
 use fy_check::ReplayedAudit;
 use fy_cluster::{ClusterState, Config};
 use fy_decide::{DeadBook, MakeFault};
+use fy_policy::Policy;
 use fy_streams::Stop;
 use fy_tolerance::{Findings, LossesSoFar, book_of, findings_of, laws};
+use fy_votes::{Forgetting, forgettings_by_each};
 use std::alloc::Global;
 
-/// The losses so far, after an audit alone, and what is borne from there on.
+/// The losses so far, after an audit alone, what is borne from there on, and by each policy of
+/// elections, and each of writes, what may forget.
 #[derive(Drop)]
 pub struct Told {
     pub before: Option<LossesSoFar>,
     pub findings: Findings,
+    pub forgetting: Vec<Option<Vec<Forgetting>>>,
 }
 
 /// What is told of a cluster at its start.
@@ -25,8 +29,12 @@ pub struct Told {
 /// # Errors
 ///
 /// `NoMemory`.
-pub(crate) fn told_at_start(alloc: Global, config: &Config) -> Result<Told, Stop>
-    ensures told { IfOk result (IsToldAtStart config.now) }
+pub(crate) fn told_at_start(
+    alloc: Global,
+    config: &Config,
+    elections: &[Policy],
+) -> Result<Told, Stop>
+    ensures told { IfOk result (IsToldAtStart config.now elections.now) }
     ensures memory { IfErr result (λ stop. stop ≡ Stop.NoMemory) }
 {
     let (map, policies) = (config.map(), config.policies());
@@ -35,9 +43,11 @@ pub(crate) fn told_at_start(alloc: Global, config: &Config) -> Result<Told, Stop
         return Err(Stop::NoMemory);
     };
     let findings = findings_of(alloc, &dead, map, policies)?;
+    let forgetting = forgettings_by_each(alloc, &dead, map, policies, elections)?;
     Ok(Told {
         before: None,
         findings,
+        forgetting,
     })
 }
 
@@ -66,8 +76,9 @@ fn book_in(
 /// # Errors
 ///
 /// `NoMemory`.
-fn told_of(alloc: Global, cluster: &ClusterState) -> Result<Told, Stop>
-    ensures told { IfOk result (IsToldAfter cluster.now.setup (history_of cluster.now)) }
+fn told_of(alloc: Global, cluster: &ClusterState, elections: &[Policy]) -> Result<Told, Stop>
+    ensures told { IfOk result
+        (IsToldAfter cluster.now.setup elections.now (history_of cluster.now)) }
     ensures memory { IfErr result (λ stop. stop ≡ Stop.NoMemory) }
 {
     let losses = losses_in(cluster);
@@ -76,10 +87,13 @@ fn told_of(alloc: Global, cluster: &ClusterState) -> Result<Told, Stop>
         return Err(Stop::NoMemory);
     };
     let config = cluster.config();
-    let findings = findings_of(alloc, &dead, config.map(), config.policies())?;
+    let (map, policies) = (config.map(), config.policies());
+    let findings = findings_of(alloc, &dead, map, policies)?;
+    let forgetting = forgettings_by_each(alloc, &dead, map, policies, elections)?;
     Ok(Told {
         before: Some(losses),
         findings,
+        forgetting,
     })
 }
 
@@ -88,11 +102,15 @@ fn told_of(alloc: Global, cluster: &ClusterState) -> Result<Told, Stop>
 /// # Errors
 ///
 /// `NoMemory`.
-pub(crate) fn told_after(alloc: Global, audit: &ReplayedAudit) -> Result<Told, Stop>
+pub(crate) fn told_after(
+    alloc: Global,
+    audit: &ReplayedAudit,
+    elections: &[Policy],
+) -> Result<Told, Stop>
     ensures told { IfOk result (λ told. (setup : Setup) (bytes : List ℕ)
         → IsReplayed setup bytes audit.now
-        → audit.now.replayer.first_bad ≡ None → IsToldOf setup bytes told) }
+        → audit.now.replayer.first_bad ≡ None → IsToldOf setup elections.now bytes told) }
     ensures memory { IfErr result (λ stop. stop ≡ Stop.NoMemory) }
 {
-    told_of(alloc, audit.replayer.cluster())
+    told_of(alloc, audit.replayer.cluster(), elections)
 }

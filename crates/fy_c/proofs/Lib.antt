@@ -1,3 +1,4 @@
+mod Asked
 mod Begun
 mod Bits
 mod Checked

@@ -19,3 +19,4 @@ pub mod Progress
 pub mod Resuming
 pub mod Sets
 pub mod Statuses
+pub mod Questioning

@@ -2,6 +2,8 @@
 use Rattle.std.specs.Prelude.{◌≡◌, ℕ, Result, Ok, Err}
 use Rattle.fy_spelling.specs.declared.command.LineFault.{LineFault}
 use Rattle.fy_spelling.specs.declared.command.LineFault.TheVariants as line
+use Rattle.fy_spelling.specs.declared.command.CommandFault.{CommandFault}
+use Rattle.fy_spelling.specs.declared.command.CommandFault.TheVariants as reading
 use Rattle.fy_answers.specs.declared.fault.AnswerFault.{AnswerFault}
 use Rattle.fy_answers.specs.declared.fault.AnswerFault.TheVariants as answer
 use Rattle.fy_cluster.specs.declared.fault.Fault.{Fault}
@@ -61,6 +63,11 @@ abbrev pub line_status : LineFault → Status
 line_status line.TooLong = LineTooLong
 line_status line.Syntax = LineSyntax
 line_status line.Floor = Floor
+
+-- the status for a line from which nothing could be read
+abbrev pub reading_status : CommandFault → Status
+reading_status (reading.Line fault) = line_status fault
+reading_status reading.NoMemory = NoMemory
 
 -- the status for a line that has no answer
 abbrev pub answer_status : AnswerFault → Status

@@ -33,7 +33,7 @@ fn act(alloc: Global, guard: &mut FyGuard, line: &[u8], room: usize) -> Result<V
 }
 
 /// Copies a text into the front of a buffer and says so, where it fits; tells how long it is.
-fn tell(text: &[u8], buffer: &mut [u8], told: &mut usize) -> bool
+pub(crate) fn tell(text: &[u8], buffer: &mut [u8], told: &mut usize) -> bool
     ensures told { IsTrue result → Tells buffer.old buffer.new told.new text.now }
     ensures short { IsFalse result → IsShort buffer.old (length text.now) told.new }
     ensures kept { IsFalse result → buffer.new ≡ buffer.old }

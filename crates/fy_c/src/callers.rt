@@ -20,6 +20,7 @@ use crate::killing_process::{fy_judge_process, fy_kill_process};
 use crate::making::{FyReply, NOTHING_TOLD};
 use crate::opening::{fy_close, fy_open, fy_reset, fy_try_copy};
 use crate::planning::{FyOrder, VALUE_BYTES, fy_attrition_plan, fy_swizzle_plan};
+use crate::questioning::fy_ask;
 use crate::resuming::fy_open_after;
 use crate::rights::{fy_give, fy_protect, fy_take, fy_unprotect};
 use crate::sets::{fy_destroyed_set, fy_gone_set, fy_is_destroyed, fy_left, fy_targets, fy_up_set};
@@ -58,6 +59,8 @@ fn act_and_audit(alloc: Global, guard: &mut FyGuard)
     let (mut buffer, mut told) = ([0; 256], 0);
     let line = b"{\"by\":0,\"act\":{\"tick\":{\"ticks\":1}}}";
     let _ = fy_act(alloc, guard, line, &mut buffer, &mut told);
+    let asks = b"{\"ask\":{\"sight\":{}}}";
+    let _ = fy_ask(alloc, guard, asks, &mut buffer, &mut told);
     if fy_journal_len(guard) > 0 {
         let _ = fy_audit(alloc, guard, 0, &mut buffer, &mut told);
     }

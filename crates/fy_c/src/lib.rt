@@ -23,6 +23,7 @@ mod numbers;
 mod opening;
 mod placing;
 mod planning;
+mod questioning;
 mod resuming;
 mod rights;
 mod sets;

@@ -6,7 +6,7 @@ use fy_answers::AnswerFault;
 use fy_cluster::Fault;
 use fy_config::ConfigFault;
 use fy_kinds::Floor;
-use fy_spelling::LineFault;
+use fy_spelling::{CommandFault, LineFault};
 use std::alloc::{AllocError, AllocFailed};
 
 /// How a call ended. But for `Done`, `Refused` and `Unwritten` nothing changed.
@@ -71,6 +71,21 @@ impl From<AnswerFault> for Status {
             AnswerFault::JournalFull => Status::JournalFull,
             AnswerFault::NoMemory => Status::NoMemory,
             AnswerFault::Unwritten => Status::Unwritten,
+        }
+    }
+}
+
+impl From<CommandFault> for Status {
+    ghost use Rattle.fy_c.specs.Statuses.{reading_status};
+
+    ghost from_gives = { λ fault status. status ≡ reading_status fault };
+
+    fn from(fault: CommandFault) -> Status {
+        match fault {
+            CommandFault::Line(LineFault::TooLong) => Status::LineTooLong,
+            CommandFault::Line(LineFault::Syntax) => Status::LineSyntax,
+            CommandFault::Line(LineFault::Floor) => Status::Floor,
+            CommandFault::NoMemory => Status::NoMemory,
         }
     }
 }

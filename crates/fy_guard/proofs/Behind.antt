@@ -1,7 +1,8 @@
 -- what stands behind an audit
-use Rattle.std.proofs.Common.{◌≡◌, ◌∙◌, ℕ, List, [], ◌∷◌, ◌++◌, map, refl, sym, ap, subst, append_assoc}
+use Rattle.std.proofs.Common.{◌≡◌, ◌∙◌, ℕ, List, [], ◌∷◌, ◌++◌, map, sym, ap, subst, append_assoc}
 use Rattle.std.specs.List.{flat_map}
 use Rattle.std.proofs.lemmas.List.{map-append}
+use Rattle.std.proofs.lemmas.Grind.{flat_map-append}
 use Rattle.fy_acts.specs.declared.entry.Entry.{Entry}
 use Rattle.fy_audit.specs.AuditText.{header, entry_line, audit_text}
 use Rattle.fy_audit.specs.Script.{AreCommands}
@@ -12,14 +13,7 @@ use Rattle.fy_acts.specs.declared.version.Version.TheVariants.{Second}
 use Rattle.fy_run.specs.RunTexts.{asked}
 use Rattle.fy_spelling.specs.declared.command.Command.{Command}
 
-lines_behind : (xs ys : List Entry) →
-    flat_map entry_line (xs ++ ys) ≡ flat_map entry_line xs ++ flat_map entry_line ys
-lines_behind [] ys = refl
-lines_behind (x ∷ xs) ys =
-    ap (λ l. entry_line x ++ l) (lines_behind xs ys)
-    ∙ sym (append_assoc (entry_line x) (flat_map entry_line xs) (flat_map entry_line ys))
-
-commands_behind : (first later : List (List ℕ)) (commands more : List Command) →
+pub commands_behind : (first later : List (List ℕ)) (commands more : List Command) →
     AreCommands first commands → AreCommands later more →
     AreCommands (first ++ later) (commands ++ more)
 commands_behind [] later [] more each rest = rest
@@ -35,7 +29,7 @@ text_behind audit text before made was written =
     ap (λ l. l ++ text) was
     ∙ ap (λ l. audit_text Second before ++ l) written
     ∙ append_assoc (header Second) (flat_map entry_line before) (flat_map entry_line made)
-    ∙ ap (λ l. header Second ++ l) (sym (lines_behind before made))
+    ∙ ap (λ l. header Second ++ l) (sym (flat_map-append entry_line before made))
 
 pub one_audit : OneAudit
 one_audit setup audit from lines text is answered = record {

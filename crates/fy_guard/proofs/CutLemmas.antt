@@ -4,7 +4,7 @@ use Rattle.std.specs.Prelude.{IfSome, Err}
 use Rattle.std.specs.List.{AllByRecursion}
 use Rattle.std.specs.Io.KnownBytes.{Consumes, Appends}
 use Rattle.std.proofs.KnownBytes.{Consumes-nil, Consumes-trans}
-use Rattle.std.proofs.lemmas.List.{drop_at}
+use Rattle.std.proofs.lemmas.List.{drop_at, flat_map_more}
 use Rattle.fy_lines.specs.Lines.{IsLine}
 use Rattle.fy_lines.specs.Prefixes.{AppendsProperPrefix}
 use Rattle.fy_lines.specs.Readings.{ReadsAtMost}
@@ -22,14 +22,8 @@ use Rattle.fy_guard.specs.Cuts.{with_feeds, IsShortLine, IsCutAt, IsCutLine, IsU
 
 -- ---- lines before others
 
-feeds_behind : (xs ys : List (List ℕ)) → with_feeds (xs ++ ys) ≡ with_feeds xs ++ with_feeds ys
-feeds_behind [] ys = refl
-feeds_behind (x ∷ xs) ys =
-    ap (λ l. (x ++ 10 ∷ []) ++ l) (feeds_behind xs ys)
-    ∙ sym (append_assoc (x ++ 10 ∷ []) (with_feeds xs) (with_feeds ys))
-
-one_behind : (xs : List (List ℕ)) (line : List ℕ) → with_feeds (xs ++ line ∷ []) ≡ with_feeds xs ++ (line ++ 10 ∷ [])
-one_behind xs line = feeds_behind xs (line ∷ []) ∙ ap (λ l. with_feeds xs ++ l) (append-nil (line ++ 10 ∷ []))
+pub one_behind : (xs : List (List ℕ)) (line : List ℕ) → with_feeds (xs ++ line ∷ []) ≡ with_feeds xs ++ (line ++ 10 ∷ [])
+one_behind xs line = sym (flat_map_more (λ line. line ++ 10 ∷ []) [] xs line)
 
 each_behind : (xs : List (List ℕ)) (line : List ℕ) → AllByRecursion IsShortLine xs → IsShortLine line
     → AllByRecursion IsShortLine (xs ++ line ∷ [])

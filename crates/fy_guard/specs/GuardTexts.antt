@@ -1,8 +1,7 @@
 -- what a guard answers to the lines of a script that is still being written
 use Rattle.std.specs.Prelude.{◌≡◌, ◌≤◌, ◌+◌, ◌-◌, ℕ, List, ◌∷◌, ◌++◌, length, map, Option, Some, IfSome, Ok, Err}
-use Rattle.std.specs.Io.KnownBytes.{Appends, Keeps}
+use Rattle.std.specs.Io.KnownBytes.{Appends}
 use Rattle.fy_lines.specs.Lines.{lines_of}
-use Rattle.fy_lines.specs.Prefixes.{AppendsProperPrefix}
 use Rattle.fy_lines.specs.Readings.{HasLongLine, ReadsWithinLine, ReadsInsideLine}
 use Rattle.fy_acts.specs.declared.entry.Entry.{Entry}
 use Rattle.fy_spelling.specs.Command.{LineOf}
@@ -16,12 +15,11 @@ use Rattle.fy_cluster.specs.Setup.{Setup}
 use Rattle.fy_cluster.specs.Replies.{Legal}
 use Rattle.fy_cluster.specs.Execution.{Execution}
 use Rattle.fy_cluster.specs.Survival.{by_and_act}
-use Rattle.fy_answers.specs.Answers.{HasNoAnswer, IsAnswered}
 use Rattle.fy_answers.specs.declared.fault.AnswerFault.{AnswerFault}
 use Rattle.fy_answers.specs.declared.fault.AnswerFault.TheVariants as answer
 use Rattle.fy_run.specs.RunTexts.{asked, lines_of_entries, IsAuditOf}
 use Rattle.fy_streams.specs.declared.stop.Stop.{Stop}
-use Rattle.fy_streams.specs.declared.stop.Stop.TheVariants.{Script, JournalFull, Read, Write, NoMemory}
+use Rattle.fy_streams.specs.declared.stop.Stop.TheVariants.{Script, JournalFull, Read, NoMemory}
 
 -- each line is a command, and the text is the audit of the legal journal of their acts
 pub record Answered (setup : Setup) (lines : List (List ℕ)) (text : List ℕ) : Type 0 where
@@ -60,22 +58,24 @@ abbrev pub AllAnswered : Answering → Option (List ℕ) → (List ℕ → Type 
 AllAnswered Answers known P =
     IfSome known (λ bytes. (text : List ℕ) × Answers (lines_of bytes) text × P text)
 
+-- what is said of answered lines, their text, the next line and why that stops it
+abbrev pub Ending : Type 1
+Ending = List (List ℕ) → List ℕ → List ℕ → Stop → Type 0
+
 -- the lines before one that has no answer are answered, by a text of which this holds
-pub record AreBefore (Answers : Answering) (room : ℕ) (bytes : List ℕ) (stop : Stop)
-    (P : List ℕ → Type 0) : Type 0 where
-  pub front : List (List ℕ)
-  pub line : List ℕ
-  pub more : List (List ℕ)
-  pub text : List ℕ
-  pub lines : lines_of bytes ≡ front ++ line ∷ more
-  pub answered : Answers front text
-  pub stops : StopsAtLine room (length front) line stop
-  pub out : P text
+pub record AreBefore (Ends : Ending) (bytes : List ℕ) (stop : Stop) (P : List ℕ → Type 0) : Type 0
+  where
+    pub front : List (List ℕ)
+    pub line : List ℕ
+    pub more : List (List ℕ)
+    pub text : List ℕ
+    pub lines : lines_of bytes ≡ front ++ line ∷ more
+    pub ends : Ends front text line stop
+    pub out : P text
 
 -- the lines of the known bytes before the one that has no answer are answered
-abbrev pub AnsweredBefore : Answering → ℕ → Option (List ℕ) → Stop → (List ℕ → Type 0) → Type 0
-AnsweredBefore Answers room known stop P =
-    IfSome known (λ bytes. AreBefore Answers room bytes stop P)
+abbrev pub AnsweredBefore : Ending → Option (List ℕ) → Stop → (List ℕ → Type 0) → Type 0
+AnsweredBefore Ends known stop P = IfSome known (λ bytes. AreBefore Ends bytes stop P)
 
 -- some first lines are answered, by a text of which this holds
 pub record AreFirst (Answers : Answering) (bytes : List ℕ) (P : List ℕ → Type 0) : Type 0 where
@@ -115,29 +115,7 @@ abbrev pub AnsweredBeforeCut : Answering → Option (List ℕ) → Option (List 
 AnsweredBeforeCut Answers old new P = IfSome old (λ bytes.
     AreInTurn Answers (λ rest left. ReadsInsideLine rest left MOST_LINE_BYTES) bytes new P)
 
--- GUARD: all lines of the known bytes are answered, by a text of which this holds
-abbrev pub AnswersAll : Setup → Option (List ℕ) → (List ℕ → Type 0) → Type 0
-AnswersAll setup known P = AllAnswered (Answered setup) known P
-
--- GUARD: the lines of the known bytes before the one that has no answer are answered
-abbrev pub AnswersBefore : Setup → Option (List ℕ) → Stop → (List ℕ → Type 0) → Type 0
-AnswersBefore setup known stop P = AnsweredBefore (Answered setup) setup.limit known stop P
-
--- GUARD: some first lines of the known bytes are answered
-abbrev pub AnswersSome : Setup → Option (List ℕ) → (List ℕ → Type 0) → Type 0
-AnswersSome setup known P = FirstAnswered (Answered setup) known P
-
--- GUARD: of the known bytes so many were read that the lines before the last one are answered; of
--- that one no byte behind its feed was read
-abbrev pub AnswersInTurn : Setup → Option (List ℕ) → Option (List ℕ) → (List ℕ → Type 0) → Type 0
-AnswersInTurn setup old new P = AnsweredInTurn (Answered setup) old new P
-
--- GUARD: so many were read, and of the last line not its feed, nor more bytes than a line may have
-abbrev pub AnswersBeforeCut : Setup → Option (List ℕ) → Option (List ℕ) → (List ℕ → Type 0)
-    → Type 0
-AnswersBeforeCut setup old new P = AnsweredBeforeCut (Answered setup) old new P
-
--- GUARD: nothing was read
+-- nothing was read
 abbrev pub ReadNothing : Option (List ℕ) → Option (List ℕ) → Type 0
 ReadNothing old new = new ≡ old
 
@@ -160,12 +138,3 @@ pub data NoLine (known : Option (List ℕ)) (number : ℕ) (stop : Stop) : Type 
       NoLine known number stop
   read : stop ≡ Read → NoLine known number stop
   no_memory : stop ≡ NoMemory → NoLine known number stop
-
--- a line, which has this number, has no answer, and nothing is out; or its answer is out in part
-pub data NoAnswer (old new : Execution) (line : List ℕ) (number : ℕ) (before after : Option (List ℕ))
-    (stop : Stop) : Type 0 where
-  unanswered : (room : ℕ) → (fault : AnswerFault) → HasNoAnswer old new line room fault →
-      stop ≡ answer_stop number fault → Keeps before after →
-      NoAnswer old new line number before after stop
-  short : (text : List ℕ) → IsAnswered old new line text → stop ≡ Write →
-      AppendsProperPrefix before after text → NoAnswer old new line number before after stop

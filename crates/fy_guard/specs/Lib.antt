@@ -1,3 +1,4 @@
 pub mod AfterTexts
+pub mod AskedTexts
 pub mod Cuts
 pub mod GuardTexts

@@ -7,7 +7,8 @@ ghost use Rattle.fy_audit.specs.declared.audit.TheConstants.{MOST_AUDIT_BYTES};
 ghost use Rattle.fy_check.specs.CheckTexts.{HasVerdict};
 ghost use Rattle.fy_streams.specs.Stops.{IfAuditFault, IsCheckStop, IsRunStop};
 ghost use Rattle.fy_guard.specs.AfterTexts.{GoesOn, NoJournalOf};
-ghost use Rattle.fy_guard.specs.GuardTexts.{AllAnswered, AnsweredBefore, AnsweredBeforeCut, AnsweredFrom, AnsweredInTurn, AppendsAtLeast, FirstAnswered, ReadNothing, room_in};
+ghost use Rattle.fy_guard.specs.AskedTexts.{AnswersFrom, EndsFrom};
+ghost use Rattle.fy_guard.specs.GuardTexts.{AllAnswered, AnsweredBefore, AnsweredBeforeCut, AnsweredInTurn, AppendsAtLeast, FirstAnswered, ReadNothing};
 ghost use Rattle.fy_run.specs.RunTexts.{IfRunRefusal};
 
 use crate::going_on::cluster_after;
@@ -20,8 +21,8 @@ use std::alloc::Global;
 use std::io::{BufRead, Read, Write};
 
 /// Reads an audit to its end, checks it, and answers the lines of a script as a guard that goes on
-/// from there: the entries of the lines are written, and no header. So the audit with all that is
-/// written behind it is one audit.
+/// from there: the answers to the lines are written, and no header. So the audit with all that is
+/// written behind it, less what is told to questions, is one audit.
 ///
 /// Where an entry of the audit isn't what the rules give, the line of `run_check` goes to another
 /// writer, for what is written may stand behind the audit. The answer is whether the audit is
@@ -35,13 +36,14 @@ use std::io::{BufRead, Read, Write};
 pub fn run_guard_after<A: Read, R: BufRead, W: Write, F: Write>(
     alloc: Global,
     config: &Config,
+    questions: bool,
     audit: &mut A,
     reader: &mut R,
     writer: &mut W,
     found: &mut F,
 ) -> Result<bool, Stop>
     ensures answered { result ≡ Ok true → GoesOn config.now (A.remaining audit.old)
-        (λ from. AllAnswered (AnsweredFrom from) (R.remaining reader.old)
+        (λ from. AllAnswered (AnswersFrom questions from) (R.remaining reader.old)
         (Appends (W.contents writer.old) (W.contents writer.new))) }
     ensures refuted { result ≡ Ok false → HasVerdict config.now (A.remaining audit.old) false
         (Appends (F.contents found.old) (F.contents found.new)) }
@@ -49,28 +51,31 @@ pub fn run_guard_after<A: Read, R: BufRead, W: Write, F: Write>(
         IfSome (A.remaining audit.old) (λ bytes. NoJournalOf config.now bytes fault))) }
     ensures stopped { IfErr result (λ stop. IfRunRefusal stop
         (GoesOn config.now (A.remaining audit.old) (λ from.
-        AnsweredBefore (AnsweredFrom from) (room_in from) (R.remaining reader.old) stop
+        AnsweredBefore (EndsFrom questions from) (R.remaining reader.old) stop
         (Appends (W.contents writer.old) (W.contents writer.new))))) }
     ensures in_turn { (ReadNothing (R.remaining reader.old) (R.remaining reader.new)
         × W.contents writer.new ≡ W.contents writer.old)
-        ⊎ GoesOn config.now (A.remaining audit.old) (λ from. AnsweredInTurn (AnsweredFrom from)
+        ⊎ GoesOn config.now (A.remaining audit.old) (λ from.
+        AnsweredInTurn (AnswersFrom questions from)
         (R.remaining reader.old) (R.remaining reader.new)
         (AppendsAtLeast (W.contents writer.old) (W.contents writer.new))) }
     ensures read_fault { result ≡ Err Stop.Read →
         ReadsAtMost (A.remaining audit.old) (A.remaining audit.new) MOST_AUDIT_BYTES
         ⊎ GoesOn config.now (A.remaining audit.old) (λ from.
-        AnsweredBeforeCut (AnsweredFrom from) (R.remaining reader.old) (R.remaining reader.new)
+        AnsweredBeforeCut (AnswersFrom questions from)
+        (R.remaining reader.old) (R.remaining reader.new)
         (Appends (W.contents writer.old) (W.contents writer.new))) }
     ensures no_memory { result ≡ Err Stop.NoMemory →
         (W.contents writer.new ≡ W.contents writer.old)
-        ⊎ GoesOn config.now (A.remaining audit.old) (λ from. AnsweredInTurn (AnsweredFrom from)
+        ⊎ GoesOn config.now (A.remaining audit.old) (λ from.
+        AnsweredInTurn (AnswersFrom questions from)
         (R.remaining reader.old) (R.remaining reader.new)
         (Appends (W.contents writer.old) (W.contents writer.new))) }
     ensures front_out { result ≡ Err Stop.Write →
         ((legal : Bool) × HasVerdict config.now (A.remaining audit.old) legal
         (AppendsProperPrefix (F.contents found.old) (F.contents found.new)))
         ⊎ GoesOn config.now (A.remaining audit.old) (λ from.
-        FirstAnswered (AnsweredFrom from) (R.remaining reader.old)
+        FirstAnswered (AnswersFrom questions from) (R.remaining reader.old)
         (AppendsProperPrefix (W.contents writer.old) (W.contents writer.new))) }
     ensures no_other { IfErr result (λ stop. IsRunStop stop ⊎ IsCheckStop stop) }
     ensures audit_first { ReadNothing (R.remaining reader.old) (R.remaining reader.new)
@@ -84,5 +89,5 @@ pub fn run_guard_after<A: Read, R: BufRead, W: Write, F: Write>(
         return write_finding(finding, found);
     }
     let cluster = cluster_after(replayed)?;
-    answer_lines(alloc, cluster, reader, writer)
+    answer_lines(alloc, cluster, questions, reader, writer)
 }

@@ -1,5 +1,5 @@
 //! The engine of `guard`: a line of a script in, and its entry out before the next, from the start
-//! or where an audit ends.
+//! or where an audit ends; and its questions answered, where it may ask.
 #![tactic(auto)]
 
 mod after;

@@ -64,20 +64,20 @@ returns-in-simulate-clause-task c = is_task_of _ (map string_bytes c.args.words.
     (c.in-simulate.is, c.config_of-in-simulate.ensures, c.seed_of-in-simulate.ensures, c.acts_of.ensures, c.plan_of.ensures)
 
 pub returns-in-guard-clause-task : goal.returns-in-guard-clause-task
-returns-in-guard-clause-task c = is_task_of _ (map string_bytes c.args.words.now) c.in_ok-matches.matches c.in-Some.name.now c.in-Some.given.now (Guard c.config_of-in-guard.result c.after_of.result) c.in_ok-faultyard.ensures
-    c.in_ok-matches.ensures.matches c.in-Some.ensures.name c.in-Some.ensures.rows (c.in-guard.is, c.config_of-in-guard.ensures, c.after_of.ensures)
+returns-in-guard-clause-task c = is_task_of _ (map string_bytes c.args.words.now) c.in_ok-matches.matches c.in-Some.name.now c.in-Some.given.now (Guard c.config_of-in-guard.result c.after_of.result c.is_set.result) c.in_ok-faultyard.ensures
+    c.in_ok-matches.ensures.matches c.in-Some.ensures.name c.in-Some.ensures.rows (c.in-guard.is, c.config_of-in-guard.ensures, c.after_of.ensures, c.is_set.ensures)
 
 pub returns-in-show-clause-task : goal.returns-in-show-clause-task
 returns-in-show-clause-task c = is_task_of _ (map string_bytes c.args.words.now) c.in_ok-matches.matches c.in-Some.name.now c.in-Some.given.now (Show c.config_of-in-show.result c.times_of.result) c.in_ok-faultyard.ensures
     c.in_ok-matches.ensures.matches c.in-Some.ensures.name c.in-Some.ensures.rows (c.in-show.is, c.config_of-in-show.ensures, c.times_of.ensures)
 
 pub returns-in-bears-clause-task : goal.returns-in-bears-clause-task
-returns-in-bears-clause-task c = is_task_of _ (map string_bytes c.args.words.now) c.in_ok-matches.matches c.in-Some.name.now c.in-Some.given.now (Bears c.config_of-in-bears.result c.form_of.result c.after_of-in-bears.result) c.in_ok-faultyard.ensures
-    c.in_ok-matches.ensures.matches c.in-Some.ensures.name c.in-Some.ensures.rows (c.in-bears.is, c.config_of-in-bears.ensures, c.form_of.ensures, c.after_of-in-bears.ensures)
+returns-in-bears-clause-task c = is_task_of _ (map string_bytes c.args.words.now) c.in_ok-matches.matches c.in-Some.name.now c.in-Some.given.now (Bears c.config_of-in-bears.result c.form_of.result c.after_of-in-bears.result c.elections_of.result) c.in_ok-faultyard.ensures
+    c.in_ok-matches.ensures.matches c.in-Some.ensures.name c.in-Some.ensures.rows (c.in-bears.is, c.config_of-in-bears.ensures, c.form_of.ensures, c.after_of-in-bears.ensures, c.elections_of.ensures)
 
 pub returns-in-verdict-clause-task : goal.returns-in-verdict-clause-task
-returns-in-verdict-clause-task c = is_task_of _ (map string_bytes c.args.words.now) c.in_ok-matches.matches c.in-Some.name.now c.in-Some.given.now (Verdict c.config_of-in-verdict.result c.audit_of.result c.is_fresh.result) c.in_ok-faultyard.ensures
-    c.in_ok-matches.ensures.matches c.in-Some.ensures.name c.in-Some.ensures.rows (c.in-verdict.is, c.config_of-in-verdict.ensures, c.audit_of.ensures, c.is_fresh.ensures)
+returns-in-verdict-clause-task c = is_task_of _ (map string_bytes c.args.words.now) c.in_ok-matches.matches c.in-Some.name.now c.in-Some.given.now (Verdict c.config_of-in-verdict.result c.audit_of.result c.is_set-in-verdict.result) c.in_ok-faultyard.ensures
+    c.in_ok-matches.ensures.matches c.in-Some.ensures.name c.in-Some.ensures.rows (c.in-verdict.is, c.config_of-in-verdict.ensures, c.audit_of.ensures, c.is_set-in-verdict.ensures)
 
 pub returns-in-linear-clause-task : goal.returns-in-linear-clause-task
 returns-in-linear-clause-task c = is_task_of _ (map string_bytes c.args.words.now) c.in_ok-matches.matches c.in-Some.name.now c.in-Some.given.now Linear c.in_ok-faultyard.ensures

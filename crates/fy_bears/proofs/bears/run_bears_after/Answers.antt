@@ -12,6 +12,7 @@ use Rattle.fy_streams.specs.Outputs.{IsOutputStop}
 use Rattle.fy_check.specs.Checked.{IsChecked, IsReplayed}
 use Rattle.fy_check.specs.declared.check.ReplayedAudit.{ReplayedAudit}
 use Rattle.fy_cluster.specs.Setup.{Setup}
+use Rattle.fy_policy.specs.Tree.{Tree}
 use Rattle.fy_bears.specs.BearsTexts.{IsSpelledOut, IsToldOf, Tells}
 use Rattle.fy_bears.specs.declared.told.Told.{Told}
 use Rattle.fy_bears.proofs.bears.run_bears_after.Goals as goal
@@ -47,25 +48,25 @@ none_of None e = refl
 none_of (Some x) e = absurd (false≢true (sym e))
 
 -- of an audit that is legal, what is told goes out
-told_known : (setup : Setup) (known : Option (List ℕ)) (audit : ReplayedAudit) (told : Told) (spells : Told → List ℕ → Type 0) (goes : List ℕ → Type 0)
+told_known : (setup : Setup) (elections : List Tree) (known : Option (List ℕ)) (audit : ReplayedAudit) (told : Told) (spells : Told → List ℕ → Type 0) (goes : List ℕ → Type 0)
     → IfSome known (λ bytes. IsReplayed setup bytes audit)
-    → ((bytes : List ℕ) → IsReplayed setup bytes audit → IsToldOf setup bytes told)
+    → ((bytes : List ℕ) → IsReplayed setup bytes audit → IsToldOf setup elections bytes told)
     → IsSpelledOut (spells told) goes
-    → IfSome known (λ bytes. Tells (IsToldOf setup bytes) spells goes)
-told_known setup None audit told spells goes replayed those out = tt
-told_known setup (Some bytes) audit told spells goes replayed those out = (told, those bytes replayed, out)
+    → IfSome known (λ bytes. Tells (IsToldOf setup elections bytes) spells goes)
+told_known setup elections None audit told spells goes replayed those out = tt
+told_known setup elections (Some bytes) audit told spells goes replayed those out = (told, those bytes replayed, out)
 
 pub returns-clause-written : goal.returns-clause-written
 returns-clause-written g c = λ _.
     let none = sym c.finding-finding.ensures.first_bad ∙ none_of c.finding-finding.result.first_bad (sym c.is_some.ensures ∙ c.if-is_some.false) in
-    told_known c.args.config.now (g.R.Read.remaining c.args.reader.now) c.in_ok-audit.audit c.in_ok-told.told (g.S.Spelling.spells c.args.form.now c.args.config.now)
+    told_known c.args.config.now c.args.elections.now (g.R.Read.remaining c.args.reader.now) c.in_ok-audit.audit c.in_ok-told.told (g.S.Spelling.spells c.args.form.now c.args.config.now c.args.elections.now)
     _ c.in_ok-audit.ensures.replayed (λ bytes replayed. c.in_ok-told.ensures.told c.args.config.now bytes replayed none) c.in_ok-write_told.ensures.written
 
 -- a text that goes out in part is that of what is told of a legal audit
 pub returns-in_err-write_told-clause-front_out : goal.returns-in_err-write_told-clause-front_out
 returns-in_err-write_told-clause-front_out g c is =
     let none = sym c.finding-finding.ensures.first_bad ∙ none_of c.finding-finding.result.first_bad (sym c.is_some.ensures ∙ c.if-is_some.false) in
-    inr (told_known c.args.config.now (g.R.Read.remaining c.args.reader.now) c.in_ok-audit.audit c.in_ok-told.told (g.S.Spelling.spells c.args.form.now c.args.config.now)
+    inr (told_known c.args.config.now c.args.elections.now (g.R.Read.remaining c.args.reader.now) c.in_ok-audit.audit c.in_ok-told.told (g.S.Spelling.spells c.args.form.now c.args.config.now c.args.elections.now)
     _ c.in_ok-audit.ensures.replayed (λ bytes replayed. c.in_ok-told.ensures.told c.args.config.now bytes replayed none) (c.in_err-write_told.ensures.short (search rules)))
 
 -- nothing is read once the text is written

@@ -9,5 +9,5 @@ returns-clause-told c =
     IfOk-weaker c.told_of.result _ _ (λ told those setup bytes is none. record {
       audit = is.audit;
       read = is.read;
-      those = subst (λ (x : Execution). IsToldAfter x.setup (history_of x) told) (c.cluster.ensures ∙ is.those.execution none) those;
+      those = subst (λ (x : Execution). IsToldAfter x.setup c.args.elections.now (history_of x) told) (c.cluster.ensures ∙ is.those.execution none) those;
     }) c.told_of.ensures.told

@@ -10,4 +10,5 @@ returns-clause-told c = record {
       subst (λ qs. IsFresh c.args.config.now.processes qs c.in-Ok.dead) c.policies-policies.ensures
       (subst (λ ps. IsFresh ps c.policies-policies.result.now c.in-Ok.dead) c.map-map.ensures c.in-Ok.ensures.made);
   found = c.in_ok-findings.ensures;
+  forgetting = c.in_ok-forgetting.ensures;
 }

@@ -1,7 +1,7 @@
 use Rattle.std.proofs.Common.{refl}
 use Rattle.std.proofs.lemmas.Result.{err_from_is_err_and}
 use Rattle.std.proofs.KnownBytes.{Keeps-refl}
-use Rattle.fy_guard.specs.GuardTexts.{NoAnswer}
+use Rattle.fy_guard.specs.AskedTexts.{NoAnswer}
 use Rattle.fy_guard.proofs.guard.answer_line.Goals as goal
 
 pub returns-in-Err-clause-err : goal.returns-in-Err-clause-err
