@@ -331,6 +331,8 @@ uint32_t fy_replace(fy_guard *guard, uint32_t actor, uint32_t team, uint32_t out
                     fy_reply *reply);
 uint32_t fy_act(fy_guard *guard, const uint8_t *line, size_t line_length, uint8_t *buffer,
                 size_t buffer_length, size_t *told);
+uint32_t fy_ask(const fy_guard *guard, const uint8_t *line, size_t line_length, uint8_t *buffer,
+                size_t buffer_length, size_t *told);
 uint32_t fy_process(const fy_guard *guard, const uint8_t *name, size_t name_length);
 uint32_t fy_process_count(const fy_guard *guard);
 uint32_t fy_targets(const fy_guard *guard, uint32_t key, const uint8_t *value, size_t value_length,
@@ -810,6 +812,23 @@ static inline fy_status fy_guard_act(fy_guard *guard, const char *line, size_t l
         return FY_SHORT;
     }
     return (fy_status)fy_act(guard, (const uint8_t *)line, length, (uint8_t *)buffer, buffer_length,
+                             told);
+}
+
+/* Asks a question: `line` is a line that asks, as `faultyard guard --questions` takes it
+ * (docs/FORMATS.md). The line of what is told, which ends with a line feed and has no zero behind
+ * it, is written to the front of the buffer, and `*told` is how many bytes it has. What is behind
+ * it in the buffer stays as it was. It is what the guard answers to the same line. Nothing changes.
+ *
+ * In this order: FY_LINE_TOO_LONG, FY_LINE_SYNTAX, FY_FLOOR for a line that is no question;
+ * FY_NO_MEMORY may take the place of any of these but the first. `*told` stays then. FY_SHORT where
+ * the line of what is told is longer than the buffer: `*told` is its length. */
+static inline fy_status fy_guard_ask(const fy_guard *guard, const char *line, size_t length,
+                                     char *buffer, size_t buffer_length, size_t *told)
+{
+    if (!fy_guard_is_open(guard) || line == NULL || buffer == NULL || told == NULL)
+        return FY_CLOSED;
+    return (fy_status)fy_ask(guard, (const uint8_t *)line, length, (uint8_t *)buffer, buffer_length,
                              told);
 }
 

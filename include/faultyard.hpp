@@ -961,6 +961,18 @@ public:
         return answer;
     }
 
+    /* Asks any question, given as its line, and answers the line of what is told, which ends with a
+     * line feed (docs/FORMATS.md). Nothing changes.
+     * Throws in order Closed, LineTooLong, LineSyntax, Floor; NoMemory in place of any but the
+     * first two. */
+    std::string ask(std::string_view line) const
+    {
+        const fy_guard *const guard = opened();
+        return told([=](std::uint8_t *buffer, std::size_t room, std::size_t *length) {
+            return fy_ask(guard, detail::bytes(line), line.size(), buffer, room, length);
+        });
+    }
+
     /* The number of the process whose processid is this name. Throws Closed. */
     std::optional<std::uint32_t> process(std::string_view name) const
     {
@@ -1064,16 +1076,9 @@ public:
     std::string entry(std::size_t at) const
     {
         const fy_guard *const guard = opened();
-        std::string line = room_for(USUAL_LINE);
-        std::size_t told = 0;
-        std::uint32_t status = fy_audit(guard, at, bytes_of(line), line.size(), &told);
-        if (status == FY_SHORT) {
-            line = room_for(told);
-            status = fy_audit(guard, at, bytes_of(line), line.size(), &told);
-        }
-        require(status);
-        line.resize(told);
-        return line;
+        return told([=](std::uint8_t *buffer, std::size_t room, std::size_t *length) {
+            return fy_audit(guard, at, buffer, room, length);
+        });
     }
 
     /* The audit that `faultyard check` reads: its header and the line of each entry.
@@ -1302,6 +1307,21 @@ private:
         return Error(static_cast<Status>(status),
                      part == FY_WHOLE_FILE ? std::nullopt : std::optional(static_cast<Part>(part)),
                      has_place ? std::optional(place) : std::nullopt);
+    }
+
+    /* The line that a call writes to a buffer with so much room, and whose length it tells. */
+    template <typename Call> static std::string told(Call call)
+    {
+        std::string line;
+        std::size_t length = USUAL_LINE;
+        std::uint32_t status = FY_SHORT;
+        while (status == FY_SHORT) {
+            line = room_for(length);
+            status = call(bytes_of(line), line.size(), &length);
+        }
+        require(status);
+        line.resize(length);
+        return line;
     }
 
     static std::string room_for(std::size_t length)

@@ -9,24 +9,20 @@ import java.nio.file.Files;
 import java.nio.file.Path;
 import java.time.Duration;
 import java.util.ArrayList;
-import java.util.Arrays;
-import java.util.BitSet;
 import java.util.Collection;
-import java.util.EnumMap;
 import java.util.EnumSet;
-import java.util.HashMap;
 import java.util.List;
-import java.util.Map;
 import java.util.Objects;
 import java.util.Optional;
 import java.util.OptionalInt;
+import java.util.OptionalLong;
 import java.util.Set;
 import java.util.TreeSet;
 import java.util.concurrent.Future;
 import java.util.concurrent.ScheduledThreadPoolExecutor;
 import java.util.concurrent.TimeUnit;
 import java.util.function.Function;
-import java.util.regex.MatchResult;
+import java.util.function.Predicate;
 import java.util.regex.Matcher;
 import java.util.regex.Pattern;
 import java.util.stream.Collectors;
@@ -53,11 +49,13 @@ import java.util.stream.IntStream;
  */
 public final class Guard implements AutoCloseable {
     private static final String HEADER = "{\"audit\":2}\n";
+    private static final String TOLD = "{\"told\":";
     private static final int MOST_LINE = 65_536;
     private static final int MOST_MEMBERS = 1024;
     private static final int MOST_FAULT = 65_536;
     private static final Duration PATIENCE = Duration.ofSeconds(10);
     private static final Pattern NAME = Pattern.compile("[A-Za-z0-9_][A-Za-z0-9_-]{0,31}");
+    private static final Pattern PROCESS = Pattern.compile("\"processid\":\"([^\"]+)\"");
     private static final Pattern LOSS =
         Pattern.compile("\"any\":(\\d{1,9}),\"policies\":\\[(.*?)\\],\"groups\"");
     private static final Cleaner CLEANER = Cleaner.create();
@@ -261,18 +259,75 @@ public final class Guard implements AutoCloseable {
         public final boolean destroyed;
         /** It was killed for good. */
         public final boolean gone;
+        /** Until when it is clogged; empty where it isn't. */
+        public final OptionalLong cloggedUntil;
+        /** What is barred on it, for every actor. */
+        public final Set<Kind> barred;
 
-        private State(boolean up, boolean clogged, boolean destroyed, boolean gone) {
-            this.up = up;
-            this.clogged = clogged;
-            this.destroyed = destroyed;
-            this.gone = gone;
+        private State(Text told) {
+            told.expect("{\"clogged\":");
+            cloggedUntil = told.orNull();
+            clogged = cloggedUntil.isPresent();
+            destroyed = told.truth(",\"destroyed\":");
+            told.truth(",\"down\":"); // neither up nor gone
+            gone = told.truth(",\"gone\":");
+            told.expect(",\"protected\":");
+            barred = Set.copyOf(told.list(Guard::kind));
+            up = told.truth(",\"up\":");
+            told.expect("}");
         }
 
         @Override
         public String toString() {
             return (up ? "up" : "down") + (clogged ? ", clogged" : "")
                 + (gone ? ", gone" : destroyed ? ", destroyed" : "");
+        }
+    }
+
+    /** What became of a record. */
+    public static final class Kept {
+        /** It is acknowledged. */
+        public final boolean acked;
+        /** Once it is acknowledged, the least member of its team that keeps it. */
+        public final OptionalInt keeper;
+        /** The processes that have it synced. */
+        public final Set<Integer> synced;
+        /** The number of its team. */
+        public final int team;
+
+        private Kept(Text told) {
+            acked = told.truth("{\"acked\":");
+            told.expect(",\"keeper\":");
+            keeper = whole(told.orNull());
+            told.expect(",\"synced\":");
+            synced = numbers(told);
+            told.expect(",\"team\":");
+            team = (int) told.number();
+            told.expect("}");
+        }
+    }
+
+    /** The time, and what there is to do next. */
+    public static final class Sight {
+        /** The least message that may be delivered, as an unsigned number. */
+        public final OptionalLong deliverable;
+        /** The time. */
+        public final long now;
+        /** The least process to start. */
+        public final OptionalInt sleeping;
+        /** The least process to sync. */
+        public final OptionalInt unsynced;
+
+        private Sight(Text told) {
+            told.expect("{\"deliverable\":");
+            deliverable = told.orNull();
+            told.expect(",\"now\":");
+            now = told.number();
+            told.expect(",\"sleeping\":");
+            sleeping = whole(told.orNull());
+            told.expect(",\"unsynced\":");
+            unsynced = whole(told.orNull());
+            told.expect("}");
         }
     }
 
@@ -374,9 +429,8 @@ public final class Guard implements AutoCloseable {
     private OutputStream acts;
     private InputStream answers;
     private InputStream errors;
-    private final Audit audit = new Audit();
-    private byte[] cluster; // the cluster file as it was opened
-    private States states;
+    private final ByteArrayOutputStream audit = new ByteArrayOutputStream();
+    private List<String> names; // of the processes, once they were asked for
     private int entries;
     private boolean closed;
     private GuardException end;
@@ -434,16 +488,13 @@ public final class Guard implements AutoCloseable {
             process.destroyForcibly();
             throw ended("no header of an audit: " + header.trim(), null);
         }
+        enter(header);
     }
 
     private void run(String... words) {
-        states = null;
-        try {
-            cluster = Files.readAllBytes(config);
-        } catch (IOException fault) {
-            cluster = new byte[0]; // the program says why
-        }
-        List<String> command = new ArrayList<>(List.of(program, "guard", config.toString()));
+        names = null;
+        List<String> command =
+            new ArrayList<>(List.of(program, "guard", config.toString(), "--questions"));
         command.addAll(List.of(words));
         ProcessBuilder builder = new ProcessBuilder(command);
         try {
@@ -491,14 +542,12 @@ public final class Guard implements AutoCloseable {
 
     /** Holds the messages of each process of the target for so many ticks. */
     public Ruling clog(int by, Key key, String value, long ticks) {
-        String order = "\"key\":\"" + key.word + "\",\"ticks\":" + Long.toUnsignedString(ticks);
-        return make(by, "clog", order + ",\"value\":\"" + name(value) + "\"", Guard::ruled);
+        return make(by, "clog", clogging(key, value, ticks), Guard::ruled);
     }
 
     /** Ends the clogs of each process of the target. */
     public Ruling unclog(int by, Key key, String value) {
-        String order = "\"key\":\"" + key.word + "\",\"value\":\"" + name(value) + "\"";
-        return make(by, "unclog", order, Guard::ruled);
+        return make(by, "unclog", target(key, value), Guard::ruled);
     }
 
     // Reports and acts of role storage.
@@ -615,7 +664,7 @@ public final class Guard implements AutoCloseable {
 
     /** Gives an actor a grant for the processes whose key has the value. */
     public void give(int by, int actor, Set<Kind> kinds, Key key, String value) {
-        give(by, actor, kinds, "{\"key\":\"" + key.word + "\",\"value\":\"" + name(value) + "\"}");
+        give(by, actor, kinds, "{" + target(key, value) + "}");
     }
 
     private void give(int by, int actor, Set<Kind> kinds, String scope) {
@@ -630,75 +679,33 @@ public final class Guard implements AutoCloseable {
 
     // Looking ahead, and beginning again.
 
-    /**
-     * What {@link #kill} would answer now to the same order. It enters nothing. {@code faultyard
-     * guard --after} is asked, which is started for each call and makes the acts of the journal
-     * once more. Throws {@link JournalFull} where the journal has no room for the kill.
-     */
-    public synchronized Verdict judge(int by, Key key, String value, Kind kind, Kind floor) {
-        return judged(by, List.of(order(key, value, kind, floor, 0))).get(0);
+    /** What {@link #kill} would answer now to the same order, if the journal had room. */
+    public Verdict judge(int by, Key key, String value, Kind kind, Kind floor) {
+        return judged(by, act("kill", order(key, value, kind, floor, 0)), Guard::verdict);
     }
 
-    /** What {@link #killProcess} would answer now to the same order, asked as by {@link #judge}. */
+    /** What {@link #killProcess} would answer now to the same order, if the journal had room. */
     public synchronized Verdict judgeProcess(int by, int process, Kind kind, Kind floor) {
         return judge(by, Key.PROCESS, nameOf(process), kind, floor);
+    }
+
+    /** What {@link #clog} would answer now to the same order, if the journal had room. */
+    public Ruling judgeClog(int by, Key key, String value, long ticks) {
+        return judged(by, act("clog", clogging(key, value, ticks)), Guard::ruled);
+    }
+
+    private <T> T judged(int by, String act, Function<Text, T> read) {
+        return ask("judge", "\"act\":" + act + ",\"by\":" + number(by), read);
     }
 
     /**
      * Of each process, by its number, the kind by which a kill of it alone would strike now,
      * ordered by {@code KILL_INSTANTLY}; empty where nothing would strike. Once one is killed,
-     * fewer may be. It asks as {@link #judge} does, once for each process.
+     * fewer may be.
      */
-    public synchronized List<Optional<Kind>> killable(int by) {
-        List<String> orders =
-            places().stream()
-                .map(place -> place.get(Key.PROCESS))
-                .map(name -> order(Key.PROCESS, name, Kind.KILL_INSTANTLY, Kind.REBOOT_PROCESS, 0))
-                .collect(Collectors.toList());
-        return judged(by, orders).stream().map(Verdict::struck).collect(Collectors.toList());
-    }
-
-    /** What each kill would be answered now, of a guard of its own behind the journal. */
-    private List<Verdict> judged(int by, List<String> orders) {
-        return ahead((config, journal) -> {
-            List<Verdict> verdicts = new ArrayList<>();
-            for (String order : orders) {
-                String act = act("kill", order);
-                String answer = told(line(by, act), "guard", config, "--after", journal);
-                Text entry = new Text(answer);
-                if (!entry.take(front(act, by))) {
-                    throw exception("a guard can't be asked", answer.trim(), null);
-                }
-                verdicts.add(reply(entry, Guard::verdict));
-            }
-            return verdicts;
-        });
-    }
-
-    /** What a program is asked about the files of the cluster and of the journal. */
-    private interface Ahead<T> {
-        T ask(String config, String journal) throws IOException;
-    }
-
-    /** Asks about the cluster file as it was opened, and about the journal as it stands. */
-    private <T> T ahead(Ahead<T> question) {
-        requireOpen();
-        try {
-            Path folder = Files.createTempDirectory("faultyard");
-            Path file = folder.resolve("cluster.toml");
-            Path journal = folder.resolve("audit");
-            try {
-                Files.write(file, cluster);
-                Files.write(journal, audit.toByteArray());
-                return question.ask(file.toString(), journal.toString());
-            } finally {
-                for (Path made : List.of(file, journal, folder)) {
-                    Files.deleteIfExists(made);
-                }
-            }
-        } catch (IOException fault) {
-            throw new GuardEnded("the program can't be asked", fault.getMessage(), fault);
-        }
+    public List<Optional<Kind>> killable(int by) {
+        return told("killable", "\"actor\":" + number(by), told -> told.list(Guard::struck))
+            .orElseThrow(() -> new ActRefused(Refusal.STRANGER, -1));
     }
 
     /**
@@ -709,25 +716,19 @@ public final class Guard implements AutoCloseable {
      */
     public synchronized Guard tryCopy() {
         requireOpen();
-        Guard other = new Guard(config, program, timeout);
-        String[] entries = audit().split("(?<=\n)");
-        for (int at = 1; at < entries.length; at++) {
-            if (!other.exchange(commandOf(entries[at])).equals(entries[at])) {
-                other.process.destroyForcibly();
-                throw other.ended("entry " + (at - 1) + " is another in the copy", null);
+        try {
+            Path file = Files.createTempFile("faultyard", null);
+            try {
+                Files.write(file, audit.toByteArray());
+                Guard other = after(config, file, program, timeout);
+                other.sight(); // which tells that the file is read
+                return other;
+            } finally {
+                Files.delete(file);
             }
-            other.entries++;
+        } catch (IOException fault) {
+            throw new GuardEnded("the audit can't be copied", fault.getMessage(), fault);
         }
-        return other;
-    }
-
-    /** The line of a script that makes an entry. No text of an act has a comma or a quote in it. */
-    private static String commandOf(String entry) {
-        int end = entry.indexOf(",\"at\":");
-        int by = entry.indexOf(",\"by\":", end) + 6;
-        String actor = entry.substring(by, entry.indexOf(',', by));
-        String act = entry.substring("{\"act\":".length(), end);
-        return "{\"by\":" + actor + ",\"act\":" + act + "}\n";
     }
 
     /**
@@ -760,91 +761,161 @@ public final class Guard implements AutoCloseable {
 
     /** The number of the process with this name, if there is one. */
     public synchronized OptionalInt process(String name) {
-        String wanted = name(name);
-        List<Map<Key, String>> all = places();
-        return IntStream.range(0, all.size())
-            .filter(p -> wanted.equals(all.get(p).get(Key.PROCESS)))
-            .findFirst();
+        int number = names().indexOf(name(name));
+        return number < 0 ? OptionalInt.empty() : OptionalInt.of(number);
     }
 
     /** How many processes there are; they are numbered from 0. */
     public synchronized int processCount() {
-        return places().size();
+        return names().size();
     }
 
     /**
      * Whom a kill is about: the processes whose key has the value and that aren't gone for good.
      * Ask before the kill, which may be for good.
      */
-    public synchronized Set<Integer> targets(Key key, String value) {
-        return numbers(followed().targets(key, name(value)));
+    public Set<Integer> targets(Key key, String value) {
+        return told("targets", target(key, value), Guard::numbers).orElseThrow();
     }
 
     /** Whether a process was emptied or killed for good, and not healed since. */
-    public synchronized boolean isDestroyed(int process) {
-        require(process >= 0, "a number below 0: " + process);
-        return followed().destroyed.get(process);
+    public boolean isDestroyed(int process) {
+        return state(process).filter(it -> it.destroyed).isPresent();
     }
 
     /** The processes that aren't gone for good. */
-    public synchronized Set<Integer> left() {
-        BitSet left = (BitSet) followed().gone.clone();
-        left.flip(0, processCount());
-        return numbers(left);
+    public Set<Integer> left() {
+        return those(it -> !it.gone);
     }
 
     /** The processes that are destroyed, gone for good or not. */
-    public synchronized Set<Integer> destroyed() {
-        return numbers(followed().destroyed);
+    public Set<Integer> destroyed() {
+        return those(it -> it.destroyed);
     }
 
     /** The processes that are gone for good. */
-    public synchronized Set<Integer> gone() {
-        return numbers(followed().gone);
+    public Set<Integer> gone() {
+        return those(it -> it.gone);
     }
 
     /** The processes that are up. */
-    public synchronized Set<Integer> upSet() {
-        return numbers(followed().up);
+    public Set<Integer> upSet() {
+        return those(it -> it.up);
     }
 
     /** The state of the process with this number, if there is one. */
-    public synchronized Optional<State> state(int process) {
-        require(process >= 0, "a number below 0: " + process);
-        return followed().state(process);
+    public Optional<State> state(int process) {
+        return told("state", "\"process\":" + number(process), told -> {
+            told.expect("{\"now\":");
+            told.number();
+            told.expect(",\"process\":");
+            State state = new State(told);
+            told.expect("}");
+            return state;
+        });
+    }
+
+    /** The states of all processes, by their numbers. */
+    public List<State> states() {
+        return told("state", "", told -> {
+            told.expect("{\"now\":");
+            told.number();
+            told.expect(",\"processes\":");
+            List<State> states = told.list(State::new);
+            told.expect("}");
+            return states;
+        }).orElseThrow();
+    }
+
+    private Set<Integer> those(Predicate<State> are) {
+        List<State> states = states();
+        return IntStream.range(0, states.size())
+            .filter(process -> are.test(states.get(process)))
+            .boxed()
+            .collect(Collectors.toCollection(TreeSet::new));
+    }
+
+    /** The first record that a process lacks before it may be healed, if it lacks one. */
+    public OptionalInt needed(int process) {
+        return told("needed", "\"process\":" + number(process), it -> whole(it.orNull()))
+            .orElse(OptionalInt.empty());
+    }
+
+    /** What became of the record with this number, if there is one. */
+    public Optional<Kept> record(int record) {
+        return told("record", "\"record\":" + number(record), Kept::new);
+    }
+
+    /** Whether a record is acknowledged. */
+    public boolean isAcked(int record) {
+        return record(record).filter(it -> it.acked).isPresent();
+    }
+
+    /** Who keeps an acknowledged record: the least such member of its team. */
+    public OptionalInt keeper(int record) {
+        return record(record).map(it -> it.keeper).orElse(OptionalInt.empty());
+    }
+
+    /** The time, and what there is to do next. */
+    public Sight sight() {
+        return told("sight", "", Sight::new).orElseThrow();
     }
 
     private String nameOf(int process) {
-        List<Map<Key, String>> all = places();
-        require(process >= 0 && process < all.size(), "there is no process " + process);
-        return all.get(process).get(Key.PROCESS);
+        require(process >= 0 && process < processCount(), "there is no process " + process);
+        return names().get(process);
     }
 
-    private List<Map<Key, String>> places() {
-        return known().places;
-    }
-
-    /** The states, with the entries since the last question. */
-    private States followed() {
-        States all = known();
-        audit.sinceLast().lines().forEach(all::read);
-        return all;
-    }
-
-    private synchronized States known() {
+    private List<String> names() {
         requireOpen();
-        if (states == null) {
-            try {
-                states = new States(Toml.places(new String(cluster, StandardCharsets.UTF_8)));
-            } catch (Misread fault) {
-                throw new GuardEnded("the cluster file can't be read", fault.getMessage(), fault);
-            }
+        if (names == null) {
+            names = told("cluster", "", Guard::named).orElseThrow();
         }
-        return states;
+        return names;
     }
 
-    private static Set<Integer> numbers(BitSet processes) {
-        return processes.stream().boxed().collect(Collectors.toCollection(TreeSet::new));
+    private static List<String> named(Text told) {
+        return PROCESS.matcher(told.rest()).results()
+            .map(it -> it.group(1))
+            .collect(Collectors.toList());
+    }
+
+    /**
+     * Asks any question, by its line as docs/FORMATS.md has it; what is told, as a line. What is no
+     * question ends the guard.
+     */
+    public synchronized String ask(String line) {
+        requireOpen();
+        require(line.length() <= MOST_LINE && line.indexOf('\n') < 0, "no line of a question");
+        String told = exchange(line + "\n");
+        if (!told.startsWith(TOLD)) {
+            throw misread(new Misread(told.trim()));
+        }
+        return told;
+    }
+
+    private synchronized <T> T ask(String name, String members, Function<Text, T> read) {
+        Text told = new Text(ask("{\"ask\":" + act(name, members) + "}"));
+        try {
+            told.expect(TOLD);
+            return reply(told, read);
+        } catch (Misread fault) {
+            throw misread(fault);
+        }
+    }
+
+    /** What is told by the name of the question; empty where there is no such thing. */
+    private <T> Optional<T> told(String name, String members, Function<Text, T> read) {
+        try {
+            return Optional.of(ask(name, members, told -> {
+                told.expect("{\"" + name + "\":");
+                T answer = read.apply(told);
+                told.expect("}");
+                return answer;
+            }));
+        } catch (ActRefused none) {
+            return Optional.empty();
+        }
     }
 
     /** The audit so far, with its header. It is answered after the end too. */
@@ -859,52 +930,23 @@ public final class Guard implements AutoCloseable {
 
     /**
      * How much of the cluster may still be lost, as the journal left it: the numbers that {@code
-     * faultyard bears} tells first. That program is started for each call. It enters nothing.
+     * faultyard bears} tells first.
      */
-    public synchronized Borne bears() {
-        return ahead((config, journal) -> {
-            String told = told("", "bears", config, "--after", journal, "--json");
-            try {
-                return borne(told);
-            } catch (Misread fault) {
-                throw exception("bears can't be asked", fault.getMessage(), fault);
-            }
-        });
+    public Borne bears() {
+        return told("bears", "", told -> {
+            Matcher losses = LOSS.matcher(told.rest());
+            return new Borne(new Loss(losses), new Loss(losses));
+        }).orElseThrow();
     }
 
-    /**
-     * What the program writes that is started with these words. It is ended where that takes too
-     * long.
-     */
-    private String told(String given, String... words) throws IOException {
-        List<String> command = new ArrayList<>(List.of(program));
-        command.addAll(List.of(words));
-        Process asked = new ProcessBuilder(command).redirectErrorStream(true).start();
-        Future<?> watch =
-            WATCH.schedule(asked::destroyForcibly, timeout.toMillis(), TimeUnit.MILLISECONDS);
-        try (InputStream output = asked.getInputStream()) {
-            finish(asked.getOutputStream(), given);
-            return new String(output.readAllBytes(), StandardCharsets.UTF_8);
-        } finally {
-            watch.cancel(false);
-            asked.destroyForcibly();
-        }
-    }
-
-    private static Borne borne(String told) {
-        Matcher losses = LOSS.matcher(told);
-        Loss emptied = new Loss(losses, told);
-        return new Borne(emptied, new Loss(losses, told));
-    }
-
-    /** The next of the two losses that {@code bears} tells, in its one line of JSON. */
+    /** The next of the two losses that {@code bears} tells. */
     private static final class Loss {
         final int any;
         final boolean isExact;
 
-        Loss(Matcher losses, String told) {
+        Loss(Matcher losses) {
             if (!losses.find()) {
-                throw new Misread(told.trim());
+                throw new Misread("no loss");
             }
             any = Integer.parseInt(losses.group(1));
             // A policy that bears no more than this has the number and this word behind it.
@@ -944,14 +986,23 @@ public final class Guard implements AutoCloseable {
         String line = line(by, act);
         requireOpen();
         Text entry = new Text(exchange(line));
+        enter(entry.text);
         try {
             entry.expect(front(act, by));
             entries++;
             return reply(entry, read);
         } catch (Misread fault) {
-            process.destroyForcibly();
-            throw ended("no entry of an audit: " + fault.getMessage(), fault);
+            throw misread(fault);
         }
+    }
+
+    private void enter(String line) {
+        audit.writeBytes(line.getBytes(StandardCharsets.US_ASCII));
+    }
+
+    private GuardException misread(Misread fault) {
+        process.destroyForcibly();
+        return ended("no answer of a guard: " + fault.getMessage(), fault);
     }
 
     private static String act(String name, String members) {
@@ -996,7 +1047,6 @@ public final class Guard implements AutoCloseable {
             for (int one = answers.read(); one >= 0; one = answers.read()) {
                 answer.write(one);
                 if (one == '\n') {
-                    answer.writeTo(audit);
                     return answer.toString(StandardCharsets.US_ASCII);
                 }
             }
@@ -1016,7 +1066,7 @@ public final class Guard implements AutoCloseable {
         InputStream output = answers;
         InputStream faults = errors;
         try (output; faults) {
-            finish(input, "");
+            finish(input);
             if (!process.waitFor(PATIENCE.toSeconds(), TimeUnit.SECONDS)) {
                 process.destroyForcibly().waitFor();
             }
@@ -1043,11 +1093,10 @@ public final class Guard implements AutoCloseable {
         return new GuardEnded(why, fault, cause);
     }
 
-    /** Sends the last text to a process that may have ended before it has read all. */
-    private static void finish(OutputStream input, String last) {
-        try (input) {
-            input.write(last.getBytes(StandardCharsets.US_ASCII));
-            input.flush();
+    /** Ends the input of a process that may have ended before it has read all. */
+    private static void finish(OutputStream input) {
+        try {
+            input.close();
         } catch (IOException broken) {
             // What wasn't read is no fault by itself: the process says why it ended.
         }
@@ -1091,6 +1140,15 @@ public final class Guard implements AutoCloseable {
             .collect(Collectors.joining(",", "[", "]"));
     }
 
+    private static String target(Key key, String value) {
+        return "\"key\":\"" + key.word + "\",\"value\":\"" + name(value) + "\"";
+    }
+
+    private static String clogging(Key key, String value, long ticks) {
+        return "\"key\":\"" + key.word + "\",\"ticks\":" + Long.toUnsignedString(ticks)
+            + ",\"value\":\"" + name(value) + "\"";
+    }
+
     private static String order(Key key, String value, Kind kind, Kind floor, long tear) {
         require(kind != Kind.CLOG, "no kind of kill: " + kind);
         require(floor.compareTo(kind) <= 0, "the floor " + floor + " is above the kind " + kind);
@@ -1103,9 +1161,17 @@ public final class Guard implements AutoCloseable {
         reply.expect("{\"verdict\":{\"rule\":");
         Ruling ruling = ruling(reply);
         reply.expect(",\"struck\":");
-        Kind struck = reply.take("null") ? null : find(Kind.values(), k -> k.word, reply.word());
+        Kind struck = struck(reply).orElse(null);
         reply.expect("}}");
         return new Verdict(ruling, struck);
+    }
+
+    private static Optional<Kind> struck(Text told) {
+        return told.take("null") ? Optional.empty() : Optional.of(kind(told));
+    }
+
+    private static Kind kind(Text told) {
+        return find(Kind.values(), it -> it.word, told.word());
     }
 
     private static Ruling ruled(Text reply) {
@@ -1133,6 +1199,14 @@ public final class Guard implements AutoCloseable {
         return number;
     }
 
+    private static Set<Integer> numbers(Text told) {
+        return new TreeSet<>(told.list(it -> (int) it.number()));
+    }
+
+    private static OptionalInt whole(OptionalLong number) {
+        return number.isEmpty() ? OptionalInt.empty() : OptionalInt.of((int) number.getAsLong());
+    }
+
     private static <T> T find(T[] among, Function<T, String> word, String wanted) {
         return List.of(among).stream()
             .filter(one -> word.apply(one).equals(wanted))
@@ -1140,7 +1214,7 @@ public final class Guard implements AutoCloseable {
             .orElseThrow(() -> new Misread("the word " + wanted));
     }
 
-    /** What answered isn't the entry of the act that was sent. */
+    /** What answered isn't the answer to the line that was sent. */
     private static final class Misread extends RuntimeException {
         private static final long serialVersionUID = 1;
 
@@ -1149,8 +1223,8 @@ public final class Guard implements AutoCloseable {
         }
     }
 
-    /** A text that is read from its front. An entry has one spelling, so this is all it takes. */
-    private static class Text {
+    /** A text that is read from its front. An answer has one spelling, so this is all it takes. */
+    private static final class Text {
         final String text;
         int at;
 
@@ -1182,6 +1256,34 @@ public final class Guard implements AutoCloseable {
             }
         }
 
+        OptionalLong orNull() {
+            return take("null") ? OptionalLong.empty() : OptionalLong.of(number());
+        }
+
+        boolean truth(String front) {
+            expect(front);
+            boolean isTrue = take("true");
+            expect(isTrue ? "" : "false");
+            return isTrue;
+        }
+
+        <T> List<T> list(Function<Text, T> read) {
+            List<T> items = new ArrayList<>();
+            expect("[");
+            while (!take("]")) {
+                expect(items.isEmpty() ? "" : ",");
+                items.add(read.apply(this));
+            }
+            return items;
+        }
+
+        /** What stands before the end of a line that is told. */
+        String rest() {
+            int from = at;
+            at = Math.max(at, text.length() - "}}\n".length());
+            return text.substring(from, at);
+        }
+
         String word() {
             expect("\"");
             int from = at;
@@ -1190,266 +1292,6 @@ public final class Guard implements AutoCloseable {
                 throw new Misread("no word at " + from + " of " + text);
             }
             return text.substring(from, at++);
-        }
-    }
-
-    /** The text of the audit, of which the states read what they haven't read yet. */
-    private static final class Audit extends ByteArrayOutputStream {
-        private int read = HEADER.length();
-
-        synchronized String sinceLast() {
-            String more = new String(buf, read, count - read, StandardCharsets.US_ASCII);
-            read = count;
-            return more;
-        }
-
-        @Override
-        public synchronized void reset() {
-            super.reset();
-            read = HEADER.length();
-        }
-    }
-
-    /** Who is up, clogged, destroyed and gone, followed from the entries of the journal. */
-    private static final class States {
-        private static final long LAST_TICK = 1L << 40;
-        private static final Pattern STRUCK =
-            Pattern.compile(
-                "\\{\"act\":\\{\"kill\":.*\"key\":\"(\\w+)\".*\"value\":\"([^\"]+)\"}},"
-                    + ".*\"struck\":\"(\\w+)\"}}}");
-        private static final Pattern CLOGGED =
-            Pattern.compile(
-                "\\{\"act\":\\{\"(?:un)?clog\":\\{\"key\":\"(\\w+)\",(?:\"ticks\":(\\d+),)?"
-                    + "\"value\":\"([^\"]+)\"}},.*\"ruled\":null}}");
-        private static final Pattern TOLD =
-            Pattern.compile(
-                "\\{\"act\":\\{\"(up|heal)\":\\{\"process\":(\\d+)}},.*\"reply\":\"done\"}");
-        private static final Pattern TICKED =
-            Pattern.compile("\\{\"act\":\\{\"tick\":.*\"reply\":\\{\"time\":(\\d+)}}");
-
-        final List<Map<Key, String>> places;
-        final BitSet up = new BitSet();
-        final BitSet destroyed = new BitSet();
-        final BitSet gone = new BitSet();
-        private final long[] cloggedUntil;
-        private long now;
-
-        States(List<Map<Key, String>> places) {
-            this.places = places;
-            cloggedUntil = new long[places.size()];
-            up.set(0, places.size());
-        }
-
-        /** Follows an entry. What the replies say is all that changes. */
-        void read(String entry) {
-            Matcher struck = STRUCK.matcher(entry);
-            Matcher clogged = CLOGGED.matcher(entry);
-            Matcher told = TOLD.matcher(entry);
-            Matcher ticked = TICKED.matcher(entry);
-            if (struck.matches()) {
-                strike(targets(key(struck.group(1)), struck.group(2)),
-                    find(Kind.values(), it -> it.word, struck.group(3)));
-            } else if (clogged.matches()) {
-                clog(targets(key(clogged.group(1)), clogged.group(3)), clogged.group(2));
-            } else if (told.matches() && told.group(1).equals("up")) {
-                up.set(Integer.parseInt(told.group(2)));
-            } else if (told.matches()) {
-                destroyed.clear(Integer.parseInt(told.group(2)));
-            } else if (ticked.matches()) {
-                now = Long.parseLong(ticked.group(1));
-            }
-        }
-
-        private static Key key(String word) {
-            return find(Key.values(), it -> it.word, word);
-        }
-
-        private void strike(BitSet struck, Kind kind) {
-            up.andNot(struck);
-            if (kind.emptiesDisk()) {
-                destroyed.or(struck);
-            }
-            if (kind.isFinal()) {
-                gone.or(struck);
-            }
-        }
-
-        /**
-         * A clog shortens no other, and lasts no longer than the clock; without ticks clogs end.
-         */
-        private void clog(BitSet clogged, String ticks) {
-            long most = LAST_TICK - now;
-            long asked = ticks == null ? 0 : Long.parseUnsignedLong(ticks);
-            long until = Long.compareUnsigned(asked, most) < 0 ? now + asked : LAST_TICK;
-            clogged.stream().forEach(p -> {
-                long before = cloggedUntil[p];
-                cloggedUntil[p] = ticks == null ? Math.min(before, now) : Math.max(before, until);
-            });
-        }
-
-        BitSet targets(Key key, String value) {
-            BitSet found = new BitSet();
-            IntStream.range(0, places.size())
-                .filter(p -> value.equals(places.get(p).get(key)))
-                .forEach(found::set);
-            found.andNot(gone);
-            return found;
-        }
-
-        Optional<State> state(int process) {
-            if (process >= places.size()) {
-                return Optional.empty();
-            }
-            boolean isClogged = now < cloggedUntil[process];
-            State state =
-                new State(up.get(process), isClogged, destroyed.get(process), gone.get(process));
-            return Optional.of(state);
-        }
-    }
-
-    /**
-     * Reads a cluster file that a guard has accepted: TOML in which no string has a quote in it, no
-     * key of a value is dotted, and the one header is that of an element of an array.
-     */
-    private static final class Toml extends Text {
-        private static final Pattern BARE = Pattern.compile("[A-Za-z0-9_+-]+");
-        private static final Pattern ESCAPE =
-            Pattern.compile(
-                "\\\\(?:u([0-9A-Fa-f]{4})|U([0-9A-Fa-f]{8})|x([0-9A-Fa-f]{2})"
-                    + "|[ \\t]*\\r?\\n\\s*)");
-        private static final List<String> QUOTES = List.of("\"\"\"", "'''", "\"", "'");
-
-        private Toml(String text) {
-            super(text);
-        }
-
-        /** Where each process stands. */
-        static List<Map<Key, String>> places(String text) {
-            Toml toml = new Toml(text);
-            Map<String, Object> top = new HashMap<>();
-            List<Object> headed = new ArrayList<>();
-            Map<String, Object> table = top;
-            while (toml.isMore()) {
-                if (toml.take("[[")) {
-                    table = new HashMap<>();
-                    if (toml.header().equals(List.of("process"))) {
-                        headed.add(table);
-                    }
-                } else {
-                    toml.member(table);
-                }
-            }
-            List<?> all = (List<?>) top.getOrDefault("process", headed);
-            if (all.isEmpty()) {
-                throw new Misread("no process in the cluster file");
-            }
-            return all.stream().map(it -> place((Map<?, ?>) it)).collect(Collectors.toList());
-        }
-
-        private static Map<Key, String> place(Map<?, ?> table) {
-            Map<Key, String> place = new EnumMap<>(Key.class);
-            Arrays.stream(Key.values())
-                .filter(key -> table.containsKey(key.word))
-                .forEach(key -> place.put(key, (String) table.get(key.word)));
-            return place;
-        }
-
-        private List<String> header() {
-            List<String> keys = new ArrayList<>();
-            do {
-                keys.add(key());
-                isMore();
-            } while (take("."));
-            expect("]]");
-            return keys;
-        }
-
-        private void member(Map<String, Object> table) {
-            String key = key();
-            isMore();
-            expect("=");
-            table.put(key, value());
-        }
-
-        private Object value() {
-            isMore();
-            if (take("[")) {
-                List<Object> items = new ArrayList<>();
-                while (!closes("]")) {
-                    items.add(value());
-                }
-                return items;
-            }
-            if (take("{")) {
-                Map<String, Object> table = new HashMap<>();
-                while (!closes("}")) {
-                    member(table);
-                }
-                return table;
-            }
-            return key();
-        }
-
-        /** Whether an array or a table ends here, behind a comma or not. */
-        private boolean closes(String bracket) {
-            isMore();
-            if (take(",")) {
-                isMore();
-            }
-            return take(bracket);
-        }
-
-        /** A string, a word or a number: which of them isn't told. */
-        private String key() {
-            isMore();
-            for (String quote : QUOTES) {
-                if (take(quote)) {
-                    return string(quote);
-                }
-            }
-            Matcher bare = BARE.matcher(text).region(at, text.length());
-            if (!bare.lookingAt()) {
-                throw new Misread("no word at " + at + " of the cluster file");
-            }
-            at = bare.end();
-            return bare.group();
-        }
-
-        private String string(String quote) {
-            int end = text.indexOf(quote, at);
-            if (end < 0) {
-                throw new Misread("no end of the string at " + at + " of the cluster file");
-            }
-            String raw = text.substring(at, end);
-            at = end + quote.length();
-            String inside = quote.length() == 1 ? raw : raw.replaceFirst("\\A\r?\n", "");
-            return quote.startsWith("'")
-                ? inside
-                : ESCAPE.matcher(inside).replaceAll(Toml::unescaped);
-        }
-
-        private static String unescaped(MatchResult escape) {
-            return IntStream.rangeClosed(1, escape.groupCount())
-                .mapToObj(escape::group)
-                .filter(Objects::nonNull)
-                .map(digits -> Character.toString(Integer.parseInt(digits, 16)))
-                .collect(Collectors.joining());
-        }
-
-        /** Passes over blanks, lines and comments: whether something stands behind them. */
-        private boolean isMore() {
-            while (at < text.length()) {
-                char next = text.charAt(at);
-                if (next == '#') {
-                    int end = text.indexOf('\n', at);
-                    at = end < 0 ? text.length() : end;
-                } else if (next <= ' ' || next == '\uFEFF') {
-                    at++;
-                } else {
-                    return true;
-                }
-            }
-            return false;
         }
     }
 }

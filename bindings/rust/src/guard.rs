@@ -346,6 +346,22 @@ impl Guard {
         }
     }
 
+    /// Asks any question, given as its line, and answers the line of what is told with its line
+    /// feed. docs/FORMATS.md has the questions. Nothing changes.
+    ///
+    /// # Errors
+    ///
+    /// In this order: [`Error::LineTooLong`], [`Error::LineSyntax`], [`Error::Floor`];
+    /// [`Error::NoMemory`] in place of any but the first.
+    pub fn ask(&self, line: &str) -> Result<String, Error> {
+        let mut bytes = Vec::new();
+        append_told(&mut bytes, |room, length, told| {
+            // SAFETY: as in `process`. The line and the room have these lengths.
+            unsafe { sys::fy_ask(&self.raw, line.as_ptr(), line.len(), room, length, told) }
+        })?;
+        text(bytes)
+    }
+
     /// The number of the process whose processid is this name.
     pub fn process(&self, name: &str) -> Option<u32> {
         // SAFETY: the guard is open, since only `drop` closes it. By `&self` no call that writes it
@@ -542,20 +558,30 @@ impl Guard {
 
     /// Puts the line of an entry behind what is there, which after an error is of no use.
     fn append_entry(&self, at: usize, bytes: &mut Vec<u8>) -> Result<(), Error> {
-        let front = bytes.len();
-        let mut told = USUAL_LINE;
-        loop {
-            bytes.resize(front + told, 0);
-            let (room, length) = (bytes[front..].as_mut_ptr(), told);
+        append_told(bytes, |room, length, told| {
             // SAFETY: as in `process`. The room has this length.
-            let status = unsafe { sys::fy_audit(&self.raw, at, room, length, &mut told) };
-            if status == sys::SHORT && front + told > bytes.len() {
-                continue;
-            }
-            done(status)?;
-            bytes.truncate(front + told);
-            return Ok(());
+            unsafe { sys::fy_audit(&self.raw, at, room, length, told) }
+        })
+    }
+}
+
+/// Puts the line that a call writes to a room of a length behind what is there.
+fn append_told(
+    bytes: &mut Vec<u8>,
+    call: impl Fn(*mut u8, usize, &mut usize) -> u32,
+) -> Result<(), Error> {
+    let front = bytes.len();
+    let mut told = USUAL_LINE;
+    loop {
+        bytes.resize(front + told, 0);
+        let length = told;
+        let status = call(bytes[front..].as_mut_ptr(), length, &mut told);
+        if status == sys::SHORT && told > length {
+            continue;
         }
+        done(status)?;
+        bytes.truncate(front + told);
+        return Ok(());
     }
 }
 

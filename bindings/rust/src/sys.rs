@@ -294,6 +294,14 @@ extern "C" {
         buffer_length: usize,
         told: *mut usize,
     ) -> u32;
+    pub fn fy_ask(
+        guard: *const FyGuard,
+        line: *const u8,
+        line_length: usize,
+        buffer: *mut u8,
+        buffer_length: usize,
+        told: *mut usize,
+    ) -> u32;
     pub fn fy_process(guard: *const FyGuard, name: *const u8, name_length: usize) -> u32;
     pub fn fy_process_count(guard: *const FyGuard) -> u32;
     pub fn fy_targets(

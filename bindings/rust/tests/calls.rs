@@ -537,6 +537,23 @@ fn an_act_is_answered_with_its_line() {
 }
 
 #[test]
+fn a_question_is_told_and_changes_nothing() {
+    let mut guard = opened();
+    make(&mut guard, &ACKED);
+    assert_eq!(
+        guard.ask(r#"{"ask":{"record":{"record":0}}}"#).unwrap(),
+        "{\"told\":{\"record\":{\"acked\":true,\"keeper\":0,\"synced\":[0,2],\"team\":0}}}\n"
+    );
+    let longer = guard.ask(r#"{"ask":{"cluster":{}}}"#).unwrap();
+    assert!(longer.len() > 512 && longer.ends_with("\"z2\"}]}}}\n"));
+    for line in ["", "{}", ACKED[0]] {
+        assert_eq!(guard.ask(line), Err(Error::LineSyntax), "{line:?}");
+    }
+    assert_eq!(guard.ask(&" ".repeat(65_537)), Err(Error::LineTooLong));
+    assert_eq!(guard.journal_len(), ACKED.len());
+}
+
+#[test]
 fn a_long_entry_is_read_whole() {
     let mut guard = opened();
     let payload = "ab".repeat(20_000);

@@ -10,7 +10,7 @@
 """
 
 from .checking import Check, Finding
-from .cluster_file import Actor, ClusterFile
+from .cluster import Actor, ClusterFile
 from .enums import Key, Kind, Part, Plan, Refusal, Role, Rule
 from .errors import (
     ActRefused,
@@ -24,7 +24,6 @@ from .errors import (
     InvalidAct,
     JournalFull,
     NotFound,
-    NotOffered,
     OutOfMemory,
     ProtocolError,
 )
@@ -45,7 +44,7 @@ from .replies import (
     Time,
     Verdict,
 )
-from .transport import Borne, Sight, State
+from .told import Borne, Sight, State
 
 __all__ = [
     "ActRefused",
@@ -72,7 +71,6 @@ __all__ = [
     "Kind",
     "Marked",
     "NotFound",
-    "NotOffered",
     "OutOfMemory",
     "Part",
     "Plan",

@@ -140,6 +140,17 @@ ACTS: Dict[str, Dict[str, Callable[[Any], Any]]] = {
     "replace": {"into": number, "out": number, "team": number},
 }
 """The members of each act, and what reads each."""
+QUESTIONS: Dict[str, Dict[str, Callable[[Any], Any]]] = {
+    "killable": {"actor": number},
+    "state": _PROCESS,
+    "cluster": {},
+    "targets": _TARGET,
+    "record": {"record": number},
+    "needed": _PROCESS,
+    "sight": {},
+    "bears": {},
+}
+"""The same of each question but `judge`; `state` is also asked of all processes."""
 
 
 def checked(name: str, members: Mapping[str, Any]) -> Dict[str, Any]:
@@ -160,10 +171,18 @@ def _with_floor(order: Dict[str, Any]) -> Dict[str, Any]:
     return order
 
 
-def numbered_kill(process: Any, kind: Any, floor: Any, tear: Any) -> Dict[str, Any]:
-    """The members of a kill of one process by its number, or `InvalidAct`."""
-    order = {"process": number(process), "kind": _ordered(kind), "floor": _ordered(floor)}
-    return _with_floor({**order, "tear": large(tear)})
+def question(asked: Any) -> Dict[str, Any]:
+    """A question whose members are read, or `InvalidAct`."""
+    name, members = named(asked)
+    if name == "judge" and members.keys() == {"act", "by"}:
+        act, order = named(members["act"])
+        if act not in ("kill", "clog"):
+            raise InvalidAct(f"neither a kill nor a clog: {act!r}")
+        return {name: {"act": {act: checked(act, order)}, "by": number(members["by"])}}
+    readers = QUESTIONS.get(name)
+    if readers is None or (members.keys() != readers.keys() and (name, members) != ("state", {})):
+        raise InvalidAct(f"no question: {asked!r}")
+    return {name: {member: readers[member](value) for member, value in members.items()}}
 
 
 def named(act: Any) -> Tuple[str, Mapping[str, Any]]:
@@ -195,3 +214,9 @@ def line(by: int, name: str, members: Mapping[str, Any]) -> bytes:
     if len(text) > MOST_LINE:
         raise InvalidAct(f"the line of this {name} would have over {MOST_LINE} bytes")
     return text + b"\n"
+
+
+def asking(question: Mapping[str, Any]) -> bytes:
+    """The line of a question whose members are checked."""
+    text = json.dumps({"ask": question}, separators=(",", ":"), sort_keys=True)
+    return text.encode() + b"\n"

@@ -85,10 +85,6 @@ class ProtocolError(FaultyardError):
     """What answers isn't a faultyard that this package knows."""
 
 
-class NotOffered(FaultyardError, NotImplementedError):
-    """This transport can't answer the question, or not on this Python."""
-
-
 class AuditExists(FaultyardError, FileExistsError):
     """The `audit` of the folder isn't this guard's to write, and is left as it was.
 

@@ -4,20 +4,23 @@ from __future__ import annotations
 
 import os
 import threading
+from pathlib import Path
 from types import TracebackType
 from typing import Any, Dict, FrozenSet, Iterable, List, Literal, Mapping, Optional, Tuple, Type
 from typing import TypeVar, Union
 
 from . import acts
+from .cluster import ClusterFile
 from .enums import Key, Kind, Plan, Refusal
-from .errors import ActRefused, FaultyardError, GuardClosed, NotOffered, ProtocolError
+from .errors import ActRefused, FaultyardError, GuardClosed, InvalidAct, ProtocolError
 from .library import Library
 from .pipe import Pipe
 from .programs import StrPath
 from .replies import Begun, Done, Entry, Formed, Marked, Refused, Ruling, Sent, Stored, Synced
-from .replies import Reply, Time, Verdict, read_entry
+from .replies import Time, Verdict, read_entry, read_reply
 from .served import Served
-from .transport import Borne, Sight, State, Transport
+from .told import Borne, Sight, State, borne
+from .transport import Transport
 
 _Reply = TypeVar("_Reply")
 
@@ -35,14 +38,15 @@ def _open(
 ) -> Transport:
     if server is not None:
         if after is not None:
-            raise NotOffered("a served guard goes on from its own audit")
-        return Served(config, server, tokens, timeout, folder)
+            raise ValueError("a served guard goes on from its own audit")
+        return Served(config, server, tokens, timeout, folder, program, library)
     if transport == "pipe":
-        return Pipe(config, program, timeout, folder, after)
+        return Pipe(config, program, timeout, folder, library, after)
     if transport == "library":
         if folder is not None:
-            raise NotOffered("folder asks for the transport 'pipe'")
-        return Library.open(config, library, after)
+            raise ValueError("folder asks for the transport 'pipe'")
+        audit = None if after is None else Path(after).read_bytes()
+        return Library.open(Path(config).read_bytes(), library, audit)
     raise ValueError(f"transport is neither 'pipe' nor 'library': {transport!r}")
 
 
@@ -90,9 +94,9 @@ class Guard:
         finds).
 
         `server` is the path of a socket, or the URL, of a `faultyard-serve` with this cluster file,
-        and `tokens` are those of the actors by which it is asked. Others may ask it too, and their
-        entries stand in the journal. An act is sent again until it is answered, for `timeout`
-        seconds, and is made once.
+        and `tokens` are those of the actors by which it is asked, to act and to `judge`. Others may
+        ask it too, and their entries stand in the journal. What is asked is sent again until it is
+        answered, for `timeout` seconds, and an act is made once.
 
         `after` is the path of an audit, behind which the guard goes on: its journal is that of the
         audit. An audit that is refused raises `AuditRefused` over `"library"`; over `"pipe"` it
@@ -162,14 +166,10 @@ class Guard:
     ) -> Verdict:
         """The verdict that `kill` would get now. It enters nothing.
 
-        Over the pipe `faultyard guard --after` is asked, which is started for each call. It raises
-        `JournalFull` where the journal has no room for the kill.
+        The journal may be full.
         """
         order = {"key": key, "value": value, "kind": kind, "floor": floor, "tear": 0}
-        by, order = acts.number(by), acts.checked("kill", order)
-        with self._lock:
-            reply = self._at_work().judge(by, order)
-        return self._verdict("judge", reply)
+        return self._judged(self.ask({"judge": {"act": {"kill": order}, "by": by}}))
 
     def kill_process(
         self,
@@ -182,12 +182,10 @@ class Guard:
     ) -> Verdict:
         """What `kill` does with the name of the process with this number.
 
-        Raises `InvalidAct` where no process has the number. Over the pipe as for `is_destroyed`.
+        Raises `InvalidAct` where no process has the number.
         """
-        by, order = acts.number(by), acts.numbered_kill(process, kind, floor, tear)
-        with self._lock:
-            reply = self._at_work().kill_process(by, order)
-        return self._verdict("kill_process", reply)
+        name = self._name_of(process)
+        return self.kill(Key.PROCESS, name, kind, by=by, floor=floor, tear=tear)
 
     def judge_process(
         self,
@@ -199,35 +197,20 @@ class Guard:
     ) -> Verdict:
         """The verdict that `kill_process` would get now. It enters nothing.
 
-        Raises as `kill_process` does; over the pipe also as `judge`.
+        Raises as `kill_process` does.
         """
-        by, order = acts.number(by), acts.numbered_kill(process, kind, floor, 0)
-        with self._lock:
-            reply = self._at_work().judge_process(by, order)
-        return self._verdict("judge_process", reply)
+        return self.judge(Key.PROCESS, self._name_of(process), kind, by=by, floor=floor)
 
     def killable(self, *, by: int) -> List[Optional[Kind]]:
         """Of each process, by its number, the kind by which a kill of it alone would strike now.
 
         The kill is ordered by `Kind.KILL_INSTANTLY`; `None` where nothing would strike. Once one
-        is killed, fewer may be. It enters nothing. Over the pipe it asks as `judge` does, once for
-        each process.
+        is killed, fewer may be. It enters nothing.
         """
-        by = acts.number(by)
-        with self._lock:
-            kinds = self._at_work().killable(by)
+        kinds = self._found("killable", actor=by)
         if kinds is None:
             raise ActRefused("kill", Refusal.STRANGER, None)
-        return kinds
-
-    @staticmethod
-    def _verdict(call: str, reply: Reply) -> Verdict:
-        """The verdict that a call was answered, or its refusal."""
-        if isinstance(reply, Refused):
-            raise ActRefused("kill", reply.refusal, reply.named)
-        if isinstance(reply, Verdict):
-            return reply
-        raise ProtocolError(f"{call} was answered {reply!r}")
+        return [kind and Kind(kind) for kind in kinds]
 
     def clog(self, key: Key, value: str, ticks: int, *, by: int) -> Ruling:
         """Holds the messages of each process of the target for so many ticks."""
@@ -337,7 +320,8 @@ class Guard:
     def reset(self) -> None:
         """Puts the guard back to where nothing happened yet, by the cluster file as it was opened.
 
-        Over the pipe it raises `NotOffered`.
+        Over the pipe the program is started again. With a `folder` it raises `AuditExists`, and of
+        a server `io.UnsupportedOperation`.
         """
         with self._lock:
             self._at_work().reset()
@@ -345,7 +329,8 @@ class Guard:
     def begin_again(self) -> None:
         """After `GuardEnded` the program is started again, behind all that it answered.
 
-        What it was asked as it ended has no entry. A `folder` goes on too. Only the pipe has it.
+        What it was asked as it ended has no entry. A `folder` goes on too. Only the pipe has it;
+        else it raises `io.UnsupportedOperation`.
         """
         with self._lock:
             self._at_work().begin_again()
@@ -353,8 +338,8 @@ class Guard:
     def try_copy(self) -> Guard:
         """A second guard with the same journal, to look ahead; each is closed.
 
-        What is done with one changes nothing of the other. The state is copied, and no act of the
-        journal is made again. Over the pipe it raises `NotOffered`.
+        What is done with one changes nothing of the other. The library copies the state; over the
+        pipe, and of a server, a program is started behind the journal.
         """
         with self._lock:
             transport = self._at_work().try_copy()
@@ -364,104 +349,95 @@ class Guard:
 
     # Questions.
 
-    def process(self, name: str) -> Optional[int]:
-        """The number of the process with this name; over the pipe as for `is_destroyed`."""
-        _, name = acts.target(Key.PROCESS, name)
+    def ask(self, question: Mapping[str, Mapping[str, Any]]) -> Any:
+        """What is told to any question, as `{"record": {"record": 0}}`, which enters nothing.
+
+        Questions and answers are those of `faultyard guard --questions`. What isn't there is told
+        by `{"no": [..]}`.
+        """
+        read = acts.question(question)
         with self._lock:
-            return self._at_work().process(name)
+            return self._at_work().ask(read)
+
+    def cluster(self) -> ClusterFile:
+        """The processes and the actors, with their grants as they are now."""
+        return ClusterFile.of(self.ask({"cluster": {}})["cluster"])
+
+    def process(self, name: str) -> Optional[int]:
+        """The number of the process with this name."""
+        _, name = acts.target(Key.PROCESS, name)
+        return next(iter(self._file().having(Key.PROCESS, name)), None)
 
     def process_count(self) -> int:
-        """How many processes there are, numbered from 0; over the pipe as for `is_destroyed`."""
-        with self._lock:
-            return self._at_work().process_count()
+        """How many processes there are, numbered from 0."""
+        return len(self._file().places)
 
     def targets(self, key: Key, value: str) -> FrozenSet[int]:
         """Whom a kill is about: the processes that have the value and aren't gone for good.
 
-        Ask before the kill, which may be for good. Over the pipe as for `is_destroyed`.
+        Ask before the kill, which may be for good.
         """
-        word, value = acts.target(key, value)
-        with self._lock:
-            return self._at_work().targets(word, value)
+        return frozenset(self._found("targets", key=key, value=value))
 
     def is_destroyed(self, process: int) -> bool:
-        """Whether a process was emptied or killed for good, and not healed since.
-
-        Over the pipe this follows the journal by the cluster file. That takes Python 3.11 or the
-        package `tomli`, else it raises `NotOffered`.
-        """
-        process = acts.number(process)
-        with self._lock:
-            return self._at_work().is_destroyed(process)
+        """Whether a process was emptied or killed for good, and not healed since."""
+        state = self.state(process)
+        return state is not None and state.destroyed
 
     def left(self) -> FrozenSet[int]:
-        """The processes that aren't gone for good; over the pipe as for `is_destroyed`."""
-        with self._lock:
-            return self._at_work().left()
+        """The processes that aren't gone for good."""
+        return self._those("gone", False)
 
     def up_set(self) -> FrozenSet[int]:
-        """The processes that are up; over the pipe as for `is_destroyed`."""
-        with self._lock:
-            return self._at_work().up_set()
+        """The processes that are up."""
+        return self._those("up")
 
     def state(self, process: int) -> Optional[State]:
-        """The state of a process; `None` where there is no process with this number.
-
-        Over the pipe as for `is_destroyed`.
-        """
-        process = acts.number(process)
-        with self._lock:
-            return self._at_work().state(process)
+        """The state of a process; `None` where there is no process with this number."""
+        told = self._found("state", process=process)
+        if told is None:
+            return None
+        its = told["process"]
+        return State(its["up"], its["clogged"] is not None, its["destroyed"], its["gone"])
 
     def needed(self, process: int) -> Optional[int]:
         """The record that a process still needs before it may be healed, or `None`.
 
-        `heal` is refused with `Refusal.STILL_NEEDS` for it. Over the pipe it raises `NotOffered`.
+        `heal` is refused with `Refusal.STILL_NEEDS` for it.
         """
-        process = acts.number(process)
-        with self._lock:
-            return self._at_work().needed(process)
+        record: Optional[int] = self._found("needed", process=process)
+        return record
 
     def destroyed(self) -> FrozenSet[int]:
-        """The processes that are destroyed, gone or not; over the pipe as for `is_destroyed`."""
-        with self._lock:
-            return self._at_work().destroyed()
+        """The processes that are destroyed, gone or not."""
+        return self._those("destroyed")
 
     def gone(self) -> FrozenSet[int]:
-        """The processes that are gone for good; over the pipe as for `is_destroyed`."""
-        with self._lock:
-            return self._at_work().gone()
+        """The processes that are gone for good."""
+        return self._those("gone")
 
     def is_acked(self, record: int) -> bool:
-        """Whether a record is acknowledged. Over the pipe it raises `NotOffered`."""
-        record = acts.number(record)
-        with self._lock:
-            return self._at_work().is_acked(record)
+        """Whether a record is acknowledged."""
+        told = self._found("record", record=record)
+        return told is not None and bool(told["acked"])
 
     def keeper(self, record: int) -> Optional[int]:
         """Who keeps an acknowledged record; `None` for any other record.
 
-        It is the least member of its team that isn't destroyed and has the record synced. Over the
-        pipe it raises `NotOffered`.
+        It is the least member of its team that isn't destroyed and has the record synced.
         """
-        record = acts.number(record)
-        with self._lock:
-            return self._at_work().keeper(record)
+        told = self._found("record", record=record)
+        return None if told is None else told["keeper"]
 
     def sight(self) -> Sight:
-        """The time, and what there is to do next. Over the pipe it raises `NotOffered`."""
-        with self._lock:
-            return self._at_work().sight()
+        """The time, and what there is to do next."""
+        return Sight(**self._found("sight"))
 
     def bears(self) -> Borne:
-        """How much of the cluster may still be lost: what `faultyard bears` tells first.
+        """How much of the cluster may still be lost: what `faultyard bears` tells first."""
+        return borne(self._found("bears"))
 
-        Over the pipe that program is started for each call. It enters nothing.
-        """
-        with self._lock:
-            return self._at_work().bears()
-
-    # Plans that are drawn from a seed.
+    # Plans that are drawn from a seed, over each transport by the library.
 
     def swizzle_plan(
         self, seed: int, stream: int, ticks: int = 10
@@ -469,7 +445,7 @@ class Guard:
         """The swizzle of a stream of a seed: acts `clog` and `unclog`, each for `act`.
 
         A swarm's first, third, .. fault actor makes it; the stream is its number. Nothing is
-        entered. Over the pipe it raises `NotOffered`.
+        entered.
         """
         seed, stream, ticks = acts.large(seed), acts.large(stream), acts.large(ticks)
         with self._lock:
@@ -490,7 +466,7 @@ class Guard:
 
         At most `to_kill` machines are killed, and at least `to_leave` are spared. A swarm's second,
         fourth, .. fault actor makes that of the values left out; the stream is its number. Nothing
-        is entered. Over the pipe it raises `NotOffered`.
+        is entered.
         """
         order = {"key": Key.MACHINE, "value": "m", "kind": kind, "floor": floor, "tear": tear}
         seed, stream, order = acts.large(seed), acts.large(stream), acts.checked("kill", order)
@@ -505,7 +481,7 @@ class Guard:
 
         Each is a `kill`, a `clog` or an `unclog` for `act`, or `None` for a turn that orders none.
         The target may be one that no process has, and the ticks more than the clock has. A longer
-        answer begins with the same acts. Nothing is entered. Over the pipe it raises `NotOffered`.
+        answer begins with the same acts. Nothing is entered.
         """
         seed, actor, count = acts.large(seed), acts.number(actor), acts.number(count)
         with self._lock:
@@ -530,6 +506,7 @@ class Guard:
         self._opener = os.getpid()
         self._closed = False
         self._transport = transport
+        self._places: Optional[ClusterFile] = None
 
     def _at_work(self) -> Transport:
         if self._closed:
@@ -537,6 +514,40 @@ class Guard:
         if os.getpid() != self._opener:
             raise GuardClosed("the guard was opened by another process")
         return self._transport
+
+    def _found(self, name: str, **members: Any) -> Any:
+        """What is told to a question; `None` for an actor, process or record that isn't there."""
+        return self.ask({name: members}).get(name)
+
+    def _those(self, what: str, holds: bool = True) -> FrozenSet[int]:
+        """The processes of whose state this holds."""
+        states = enumerate(self._found("state")["processes"])
+        return frozenset(process for process, state in states if state[what] is holds)
+
+    def _file(self) -> ClusterFile:
+        """The cluster, whose processes have their places for good."""
+        with self._lock:
+            self._at_work()
+        if self._places is None:
+            self._places = self.cluster()
+        return self._places
+
+    def _name_of(self, process: int) -> str:
+        """The name of the process with this number."""
+        places = self._file().places
+        if acts.number(process) >= len(places):
+            raise InvalidAct(f"there is no process {process}")
+        return places[process][Key.PROCESS]
+
+    @staticmethod
+    def _judged(told: Any) -> Verdict:
+        """The verdict that was told, or the refusal."""
+        reply = read_reply(told)
+        if isinstance(reply, Refused):
+            raise ActRefused("kill", reply.refusal, reply.named)
+        if isinstance(reply, Verdict):
+            return reply
+        raise ProtocolError(f"judge was answered {reply!r}")
 
     def _make(self, by: int, name: str, members: Mapping[str, Any]) -> object:
         by = acts.number(by)

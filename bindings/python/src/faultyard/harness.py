@@ -7,6 +7,7 @@ import json
 import statistics
 import time
 from abc import ABC, abstractmethod
+from io import UnsupportedOperation
 from pathlib import Path
 from typing import (
     Any,
@@ -23,9 +24,9 @@ from typing import (
     Tuple,
 )
 
-from .cluster_file import ClusterFile
+from .cluster import ClusterFile
 from .enums import Key, Kind, Role
-from .errors import GuardEnded, InvalidAct, NotOffered
+from .errors import GuardEnded, InvalidAct
 from .guard import Guard
 from .history import History
 from .ledger import Ledger, Lost
@@ -148,7 +149,7 @@ class Harness(ABC):
         except GuardEnded as end:
             try:
                 self.guard.begin_again()
-            except NotOffered:
+            except UnsupportedOperation:
                 raise end from None
             entry, why = self.guard.act(by, act), str(end)
         told = f"at {self.ledger.now():.2f} s before entry {entry.at}: {why}"

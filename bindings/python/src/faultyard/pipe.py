@@ -9,17 +9,20 @@ import tempfile
 import time
 import weakref
 from contextlib import ExitStack
+from pathlib import Path
 from typing import IO, Optional
 
-from .errors import ConfigRefused, FaultyardError, GuardEnded, JournalFull, OutOfMemory
-from .errors import ProtocolError
-from .followed import Followed
+from .asked import Asked
+from .errors import AuditExists, ConfigRefused, FaultyardError, GuardEnded, JournalFull
+from .errors import OutOfMemory, ProtocolError
 from .kept import Kept
 from .programs import StrPath, find_program
 from .transport import HEADER
 
 PATIENCE = 10.0
 """How many seconds a guard may take to end once its input is closed."""
+USAGE = 2
+"""The status of a program that doesn't know an option."""
 MOST_FAULT = 65_536
 """How much of what a program writes to standard error is read."""
 
@@ -31,8 +34,31 @@ def _kill(process: "subprocess.Popen[bytes]", opener: int) -> None:
         process.wait()
 
 
-class Pipe(Followed):
-    """`faultyard guard` as a child process.
+def behind(
+    config: bytes,
+    journal: bytes,
+    program: Optional[StrPath],
+    timeout: Optional[float],
+    library: Optional[StrPath],
+) -> Pipe:
+    """A guard of a journal by itself, whose entries are kept in no folder."""
+    with ExitStack() as files:
+        its, audit = (_file_of(text, files) for text in (config, journal))
+        guard = Pipe(its, program, timeout, None, library, audit)
+        guard.ask({"sight": {}})  # both files are read by now
+    return guard
+
+
+def _file_of(text: bytes, files: ExitStack) -> str:
+    """The path of a file with this text, which goes with the others."""
+    file = files.enter_context(tempfile.NamedTemporaryFile(prefix="faultyard-"))
+    file.write(text)
+    file.flush()
+    return file.name
+
+
+class Pipe(Asked):
+    """`faultyard guard --questions` as a child process.
 
     A line is sent only once the line before is answered. So neither side waits for the other with
     a full pipe. Standard error goes to a file, which can't fill up.
@@ -44,33 +70,31 @@ class Pipe(Followed):
         program: Optional[StrPath],
         timeout: Optional[float],
         folder: Optional[StrPath],
+        library: Optional[StrPath] = None,
         after: Optional[StrPath] = None,
     ):
-        super().__init__(config, program)
-        before = HEADER
-        if after is not None:
-            with open(after, "rb") as file:
-                before = file.read()
-        self._timeout = timeout
-        self._folder = folder
-        self._words = [find_program(program), "guard", os.fspath(config)]
+        super().__init__(config, library)
+        before = HEADER if after is None else Path(after).read_bytes()
+        self._program, self._timeout, self._folder = find_program(program), timeout, folder
         self._files = ExitStack()
         try:
             self._open_files(folder, before)
-            self._start(after)
+            self._start(config, after)
         except BaseException:
             self._files.close()
             raise
         self._begin(before, after is None)
 
-    def _start(self, after: Optional[StrPath]) -> None:
+    def _start(self, config: StrPath, after: Optional[StrPath]) -> None:
         """Starts the program, behind an audit if there is one."""
+        words = [self._program, "guard", os.fspath(config)]
+        words += [] if after is None else ["--after", os.fspath(after)]
         self._pending = b""
         self._end: Optional[GuardEnded] = None
         self._said = self._errors.seek(0, os.SEEK_END)
         # In a session of its own, Ctrl-C at a terminal ends the test and not its guard.
         self._process = subprocess.Popen(
-            self._words + ([] if after is None else ["--after", os.fspath(after)]),
+            [*words, "--questions"],
             stdin=subprocess.PIPE,
             stdout=subprocess.PIPE,
             stderr=self._errors,
@@ -84,16 +108,29 @@ class Pipe(Followed):
 
     def begin_again(self) -> None:
         self._abandon("it is begun again")
-        journal = self.audit()
-        # It is read by the time the first act is answered.
-        audit = self._files.enter_context(tempfile.NamedTemporaryFile(prefix="faultyard-"))
-        audit.write(journal)
-        audit.flush()
         if self._folder is not None:
-            self._kept = Kept(self._folder, journal)
+            self._kept = Kept(self._folder, self.audit())
             self._files.callback(self._kept.close)
-        self._start(audit.name)
+        self._go_on_again()
+
+    def _go_on_again(self) -> None:
+        """Starts the program behind all that it answered."""
+        journal = self.audit()
+        # They are read by the time the first line is answered.
+        self._start(*(_file_of(text, self._files) for text in (self._config, journal)))
         self._begin(journal, False)
+
+    def reset(self) -> None:
+        if self._folder is not None:
+            raise AuditExists(f"{self._folder} keeps the audit, of which nothing is cut")
+        self._abandon("it is reset")
+        with ExitStack() as files:
+            self._start(_file_of(self._config, files), None)
+            self._begin(HEADER, True)
+
+    def try_copy(self) -> Pipe:
+        made = self._program, self._timeout, self._library
+        return behind(self._config, self.audit(), *made)
 
     def _open_files(self, folder: Optional[StrPath], before: bytes) -> None:
         if folder is None:
@@ -116,13 +153,26 @@ class Pipe(Followed):
             raise
 
     def exchange(self, text: bytes) -> bytes:
+        # An audit that grew before the program read it isn't the one that was read here.
+        return self._answer(text, b',"at":%d,"by":' % self.journal_len(), True)
+
+    def tell(self, text: bytes) -> bytes:
+        if self._end is not None and isinstance(self._ended(self._end), JournalFull):
+            self._go_on_again()  # by an act that is one too many the program has ended
+        return self._answer(text, b'{"told":', False)
+
+    def _answer(self, text: bytes, part: bytes, is_kept: bool) -> bytes:
+        """What a line is answered, where it has this part."""
         if self._end is not None:
-            raise self._told(self._end)
+            raise self._ended(self._end)
         try:
-            self._tell(text)
+            self._send(text)
             answer = self._hear()
-            self._expect_next(answer)
-            self._keep(answer)
+            if part not in answer:
+                self._abandon("an answer is none of its line")
+                raise ProtocolError(f"{text!r} was answered {answer!r}")
+            if is_kept:
+                self._keep(answer)
         except FaultyardError:
             raise
         except BaseException:
@@ -131,22 +181,16 @@ class Pipe(Followed):
             raise
         return answer
 
-    def _expect_next(self, answer: bytes) -> None:
-        """An audit that grew before the program read it isn't the one that was read here."""
-        if b',"at":%d,"by":' % self.journal_len() not in answer:
-            self._abandon("an entry was answered out of its place")
-            raise ProtocolError(f"entry {self.journal_len()} was answered {answer!r}")
-
     def close(self) -> None:
         if self._end is None:
             self._stdin.close()
             ended = self._wait("the guard didn't end by itself")
             self._files.close()
             if ended.status != 0:
-                raise self._told(ended)
+                raise self._ended(ended)
         self._files.close()
 
-    def _tell(self, text: bytes) -> None:
+    def _send(self, text: bytes) -> None:
         left = memoryview(text)
         until = self._deadline()
         while left:
@@ -155,7 +199,7 @@ class Pipe(Followed):
             except BlockingIOError:
                 self._await(self._stdin.fileno(), select.POLLOUT, until)
             except BrokenPipeError:
-                raise self._told(self._wait("the guard has ended")) from None
+                raise self._ended(self._wait("the guard has ended")) from None
 
     def _hear(self) -> bytes:
         """The next line."""
@@ -164,7 +208,7 @@ class Pipe(Followed):
             self._await(self._stdout.fileno(), select.POLLIN, until)
             more = os.read(self._stdout.fileno(), 1 << 16)
             if not more:
-                raise self._told(self._wait("the guard has ended"))
+                raise self._ended(self._wait("the guard has ended"))
             self._pending += more
         answer, self._pending = self._pending.split(b"\n", 1)
         return answer + b"\n"
@@ -178,7 +222,7 @@ class Pipe(Followed):
         poll.register(descriptor, event)
         left = None if until is None else max(0.0, (until - time.monotonic()) * 1000)
         if not poll.poll(left):
-            raise self._told(self._abandon(f"no answer in {self._timeout} seconds"))
+            raise self._ended(self._abandon(f"no answer in {self._timeout} seconds"))
 
     def _abandon(self, why: str) -> GuardEnded:
         """Ends the process at once."""
@@ -207,8 +251,11 @@ class Pipe(Followed):
         self._end = GuardEnded(why, fault, status)
         return self._end
 
-    def _told(self, end: GuardEnded) -> FaultyardError:
+    def _ended(self, end: GuardEnded) -> FaultyardError:
         """The error that tells how the guard ended."""
+        if end.status == USAGE:
+            older = "it takes no `guard --questions`, so it is older than this package"
+            return ProtocolError(f"{self._program}: {older}")
         if end.status == 1 and end.fault.startswith("config: "):
             return ConfigRefused(end.fault)
         if end.status == 1 and end.fault == "script: JournalFull":

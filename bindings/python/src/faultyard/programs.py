@@ -7,10 +7,10 @@ import os
 import re
 import shutil
 import subprocess
-from typing import Any, Mapping, Optional, Sequence, Union
+from typing import Optional, Sequence, Union
 
-from .errors import AuditRefused, JournalFull, NotFound
-from .transport import Borne
+from .errors import AuditRefused, NotFound
+from .told import Borne, borne
 
 StrPath = Union[str, "os.PathLike[str]"]
 
@@ -62,26 +62,7 @@ def show(
 def bears(config: StrPath, audit: str, program: Optional[StrPath] = None) -> Borne:
     """Has `faultyard bears` say how much may still be lost after an audit, or `AuditRefused`."""
     told = _told("bears", config, audit, program, ["--after", "/dev/stdin", "--json"])
-    emptied, gone = json.loads(told)["losses"]
-    return Borne(emptied["any"], gone["any"], _is_exact(emptied), _is_exact(gone))
-
-
-def answer_after(
-    config: StrPath, audit: StrPath, line: bytes, program: Optional[StrPath] = None
-) -> bytes:
-    """The entry with which `faultyard guard` answers a line behind the file of an audit."""
-    try:
-        told = _told("guard", config, line.decode(), program, ["--after", os.fspath(audit)])
-    except AuditRefused as refused:
-        if refused.fault == "script: JournalFull":
-            raise JournalFull(refused.fault) from None
-        raise
-    return told.encode()
-
-
-def _is_exact(loss: Mapping[str, Any]) -> bool:
-    """Whether a policy that bears the least number bears no more."""
-    return any(it["any"] == loss["any"] and it["exact"] for it in loss["policies"])
+    return borne(json.loads(told))
 
 
 def _told(

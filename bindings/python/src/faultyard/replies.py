@@ -155,7 +155,8 @@ _SHAPES: Dict[str, Callable[[Any], Reply]] = {
 }
 
 
-def _reply(told: Any) -> Reply:
+def read_reply(told: Any) -> Reply:
+    """A reply as a value, from the words of an audit."""
     if told == "done":
         return Done()
     if told == "stored":
@@ -169,6 +170,14 @@ def read_entry(line: bytes) -> Entry:
     try:
         told = json.loads(line)
         text = line.decode().rstrip("\n")
-        return Entry(told["at"], told["by"], told["act"], _reply(told["reply"]), text)
+        return Entry(told["at"], told["by"], told["act"], read_reply(told["reply"]), text)
     except (ValueError, TypeError, KeyError, IndexError, AttributeError) as fault:
         raise ProtocolError(f"no entry of an audit: {line!r}") from fault
+
+
+def read_told(line: bytes) -> Any:
+    """Reads the line of what is told to a question."""
+    try:
+        return json.loads(line)["told"]
+    except (ValueError, TypeError, KeyError) as fault:
+        raise ProtocolError(f"no answer to a question: {line!r}") from fault

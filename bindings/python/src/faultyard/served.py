@@ -10,12 +10,14 @@ import time
 import uuid
 from abc import ABC, abstractmethod
 from contextlib import suppress
+from io import UnsupportedOperation
 from typing import Callable, List, Mapping, NoReturn, Optional, Set, TypeVar
-from urllib.parse import urlsplit
+from urllib.parse import urlencode, urlsplit
 
+from .asked import Asked
 from .errors import GuardEnded, InvalidAct, JournalFull, ProtocolError
-from .followed import Followed
 from .kept import Kept
+from .pipe import Pipe, behind
 from .programs import StrPath
 from .replies import Entry, read_entry
 from .transport import HEADER
@@ -35,10 +37,11 @@ class Gone(Exception):
     """The server didn't answer: it is asked again."""
 
 
-class Served(Followed):
+class Served(Asked):
     """A server that may be killed and started again: an act is asked for until it is answered.
 
-    Each act has a key of its own, by which the server makes it once.
+    Each act has a key of its own, by which the server makes it once. A question enters nothing, and
+    is told what the server's guard sees then, so also of what others did meanwhile.
     """
 
     def __init__(
@@ -48,26 +51,25 @@ class Served(Followed):
         tokens: Optional[Tokens],
         timeout: Optional[float],
         folder: Optional[StrPath],
+        program: Optional[StrPath],
+        library: Optional[StrPath],
     ) -> None:
-        super().__init__(config)
-        self._server, self._timeout = server, timeout
+        super().__init__(config, library)
+        self._server, self._timeout, self._program = server, timeout, program
         self._own: Set[int] = set()
         self._door: _Door = _Lines(server, timeout)
         if server.startswith(("http://", "https://")):
             self._door = _Web(server, tokens or {}, timeout)
         self._go_on(HEADER)
-        self._fetch()
-        if folder is not None:
-            self._keep_in(folder)
-        self._told = self.journal_len()
-
-    def _keep_in(self, folder: StrPath) -> None:
         try:
-            self._kept = Kept(folder, self.audit())
-            self._kept.begin()
+            self._fetch()
+            if folder is not None:
+                self._kept = Kept(folder, self.audit())
+                self._kept.begin()
         except BaseException:
             self._door.close()
             raise
+        self._told = self.journal_len()
 
     def exchange(self, text: bytes) -> bytes:
         key = uuid.uuid4().hex
@@ -77,6 +79,19 @@ class Served(Followed):
         if entry.at >= self.journal_len():
             self._fetch()
         return answer
+
+    def tell(self, text: bytes) -> bytes:
+        return self._asked(lambda: self._door.tell(text))
+
+    def try_copy(self) -> Pipe:
+        made = self._program, self._timeout, self._library
+        return behind(self._config, self.audit(), *made)
+
+    def reset(self) -> None:
+        raise UnsupportedOperation("the journal of a server has what others did, too")
+
+    def begin_again(self) -> None:
+        raise UnsupportedOperation("begin_again asks for the transport 'pipe'")
 
     def others(self, before: Optional[int]) -> List[Entry]:
         if before is None:
@@ -118,6 +133,10 @@ class _Door(ABC):
         """The line of the entry of an act, which is made once for each key."""
 
     @abstractmethod
+    def tell(self, text: bytes) -> bytes:
+        """The line of what is told to a question."""
+
+    @abstractmethod
     def entries(self, first: int) -> List[bytes]:
         """The lines of the entries from one on."""
 
@@ -140,7 +159,10 @@ class _Lines(_Door):
         self._socket: Optional[socket.socket] = None
 
     def act(self, text: bytes, key: str) -> bytes:
-        answer = self._ask(text.rstrip()[:-1] + b',"once":"' + key.encode() + b'"}\n')
+        return self.tell(text.rstrip()[:-1] + b',"once":"' + key.encode() + b'"}\n')
+
+    def tell(self, text: bytes) -> bytes:
+        answer = self._ask(text)
         if answer.startswith(b'{"refused":'):
             _refused(json.loads(answer)["refused"])
         return answer
@@ -200,9 +222,18 @@ class _Web(_Door):
         self._url, self._path = url, found.path.rstrip("/")
 
     def act(self, text: bytes, key: str) -> bytes:
-        by = json.loads(text)["by"]
-        named = {"Content-Type": "application/json", "Idempotency-Key": key}
-        return self._ask("POST", "/v1/acts", by, text, named)
+        return self._post("/v1/acts", text, {"Idempotency-Key": key})
+
+    def tell(self, text: bytes) -> bytes:
+        ((name, members),) = json.loads(text)["ask"].items()
+        if name == "judge":
+            return self._post("/v1/judge", json.dumps(members).encode(), {})
+        told = self._ask("GET", f"/v1/{name}?{urlencode(members)}", None, None, {})
+        if name == "targets":
+            numbers = [process["number"] for process in json.loads(told)["processes"]]
+            told = json.dumps({"told": {name: numbers}}).encode()
+        # What a cluster bears is told there as the command says it.
+        return b'{"told":{"bears":%s}}' % told if name == "bears" else told
 
     def entries(self, first: int) -> List[bytes]:
         told = self._ask("GET", f"/v1/audit?from={first}", None, None, {})
@@ -211,6 +242,11 @@ class _Web(_Door):
 
     def close(self) -> None:
         self._connection.close()
+
+    def _post(self, path: str, body: bytes, headers: Mapping[str, str]) -> bytes:
+        """What is answered to a body, by the token of its actor."""
+        named = {"Content-Type": "application/json", **headers}
+        return self._ask("POST", path, json.loads(body)["by"], body, named)
 
     def _ask(
         self,

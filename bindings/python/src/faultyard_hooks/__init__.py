@@ -28,6 +28,7 @@ from typing import Any, Callable, Dict, Iterator, List, Optional, Tuple, Type, T
 
 Answer = TypeVar("Answer")
 MORE = {"?": "?"}  # among what `salvage` returns: there may be more, which it couldn't read
+_on: List[Any] = []  # the driver, where the processes are elsewhere
 _user: Dict[str, Any] = {}  # as whom commands run, if not as who runs the hook
 HOOKS = "setup start ready join leave elect pause resume whole write check get read salvage".split()
 HOOKS += "kill empty fetch power cut mend name files stop rescue".split()
@@ -113,6 +114,11 @@ def folder(n: int, *below: str) -> str:
     return os.path.join(DIR, str(n), *below)
 
 
+def fetched(n: int, *below: str) -> str:
+    """A path below the folder of a process, to be read while that runs: elsewhere, a copy."""
+    return str(_on[0].fetched(n, *below)) if _on else folder(n, *below)
+
+
 def copied(*below: str) -> str:
     """The copy of a folder that `salvage` may change, or a path below it."""
     return os.path.join(_told("FY_COPY", ""), *below)
@@ -152,6 +158,7 @@ def main(*promises: str, user: str = "", on: Any = None) -> None:
     hooks.setdefault("ready", is_reachable)
     on = on or driver(_told("FY_ON", ""))
     if on:
+        _on.append(on)
         on.user, hooks = user, on.hooks(hooks)
     name, *numbers = sys.argv[1:] or [""]
     if name == "hooks":

@@ -6,6 +6,8 @@ Whatever a hook starts that imports this finds the daemon of the run, and no fil
 from __future__ import annotations
 
 import os
+import re
+from typing import Dict, Tuple
 
 from . import DIR, HOSTS, NAMES, Refused, port, run
 
@@ -13,6 +15,16 @@ COOKIE = "faultyard"
 LOOPBACK = "127.0.0.1"
 ANSWERED = "{ok, "
 BRIEF = 70  # characters of a fault, and of what it came of
+# What a node's own member of a quorum queue has applied beyond an index, as its own log tells it.
+HELD = """Own = {'%s', node()}, {ok, {_, Queue}, _} = ra:local_query(Own, fun(It) -> It end),
+    Messages = lqueue:to_list(element(3, Queue)) ++ lqueue:to_list(element(5, Queue)),
+    New = lists:sort([Index || [Index | _] <- Messages, Index > %d]),
+    {Log, _} = ra_log_reader:sparse_read(ra:register_external_log_reader(Own), New, []),
+    Contents = [It || {_, _, {_, _, {enqueue, _, _, {_, _, _, It, _, _}}, _}} <- Log],
+    Texts = [binary_to_list(iolist_to_binary(Text)) || {_, _, _, _, _, Text} <- Contents],
+    {erlang:system_info(creation), lists:max([0 | New]), Texts}"""
+RECORD = re.compile("(r/[0-9]{9}) ([0-9a-f]{16})")
+_held: Dict[Tuple[int, str], Tuple[str, int, Dict[str, str]]] = {}  # and of which of its lives
 os.environ["ERL_EPMD_PORT"] = str(port(0, 3))
 os.environ["HOME"] = DIR or "/"
 
@@ -41,6 +53,20 @@ def evaluated(n: int, code: str) -> str:
         why = told.partition("'EXIT',")[2] or told
         raise Refused(f"{_brief(why)}: {_brief(code)}")
     return told.strip()[len(ANSWERED) : -1]
+
+
+def held(n: int, queue: str) -> Dict[str, str]:
+    """The records that a node's own member of a quorum queue of RabbitMQ 3.10 holds.
+
+    As long as the node lives, only what is new is asked for.
+    """
+    life, last, found = _held.pop((n, queue), ("", 0, {}))
+    now, to, texts = evaluated(n, HELD % (queue, last))[1:-1].split(", ", 2)
+    if last and now != life:
+        return held(n, queue)
+    found.update(RECORD.findall(texts))
+    _held[n, queue] = now, max(last, int(to)), found
+    return found
 
 
 def _brief(text: str) -> str:

@@ -6,11 +6,12 @@ import glob
 import os
 import re
 import time
-from typing import Dict, Optional, Tuple
+from typing import Any, Callable, Dict, Optional, Tuple, Union
 
 RECORD = re.compile(rb"(r/\d{9}) ([0-9a-f]{16})")
 FRESH = 1.0  # seconds for which what was found is told again
-_looked: Dict[Tuple[str, ...], Tuple[float, Dict[str, str]]] = {}
+Look = Callable[..., Dict[str, str]]
+_looked: Dict[Tuple[Any, ...], Tuple[float, Dict[str, str]]] = {}
 
 
 def records_in(place: str, *patterns: str) -> Dict[str, str]:
@@ -26,10 +27,14 @@ def records_in(place: str, *patterns: str) -> Dict[str, str]:
     return {key.decode(): value.decode() for key, value in found.items()}
 
 
-def record_in(key: str, place: str, *patterns: str) -> Optional[str]:
-    """The value of one of them. A record that is found is told for a second without a new look."""
-    when, found = _looked.get((place, *patterns), (0.0, {}))
+def record_in(key: str, place: Union[str, Look], *words: Any) -> Optional[str]:
+    """The value of one of them. A record that is found is told for a second without a new look.
+
+    In place of a folder may stand a function that tells all records by the other words.
+    """
+    when, found = _looked.get((place, *words), (0.0, {}))
     if key not in found or time.monotonic() > when + FRESH:
-        when, found = time.monotonic(), records_in(place, *patterns)
-        _looked[(place, *patterns)] = when, found
+        told = records_in(place, *words) if isinstance(place, str) else place(*words)
+        when, found = time.monotonic(), told
+        _looked[(place, *words)] = when, found
     return found.get(key)

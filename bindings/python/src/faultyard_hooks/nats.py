@@ -11,8 +11,10 @@ from typing import Any, Dict, List, Optional, Tuple
 
 from . import Refused
 from .client import Client
+from .http import Http
 
 NO_MESSAGE = 10037  # the error of a message that isn't there
+DIRECT, NOT_FOUND = "$JS.API.DIRECT.GET", "404"
 AT_ONCE = 500  # questions that are sent before the first answer is read
 Question = Tuple[str, object]  # a subject, and a text or what is sent as JSON
 
@@ -23,11 +25,13 @@ class Nats(Client):
     user = "u"
     _inbox = ""
 
-    def message(self, stream: str, **which: object) -> Optional[Dict[str, Any]]:
-        """A message by its `seq`, or the last by `last_by_subj`, as the stream's leader has it."""
-        found: List[Optional[Dict[str, Any]]]
-        found = self.ask((f"$JS.API.STREAM.MSG.GET.{stream}", which))
-        return found[0]
+    def own(self, stream: str, **which: object) -> Optional[str]:
+        """The text of a message by its `seq`, or the last by `last_by_subj`, as this server has it.
+
+        The stream allows direct gets, and the server `answers_itself`.
+        """
+        found = self.ask((f"{DIRECT}.{stream}", which))[0]
+        return found and str(found["text"])
 
     def records(self, stream: str) -> Dict[str, str]:
         """All that the leader has: the texts by their subjects without the first word."""
@@ -58,9 +62,9 @@ class Nats(Client):
         while (words := self._line().split())[0] not in (b"MSG", b"HMSG"):
             if words[0] == b"PING":
                 self._send(b"PONG\r\n")
-        told = self._read(int(words[-1]) + 2).decode()
-        if words[0] == b"HMSG":  # it has a head, as where nobody listens
-            raise Refused(told.strip())
+        told = self._read(int(words[-1]) + 2)[:-2].decode()
+        if words[0] == b"HMSG":
+            return _direct(told[: int(words[-2])], told[int(words[-2]) :])
         answer = json.loads(told)
         fault = answer.get("error", {})
         if fault.get("err_code") == NO_MESSAGE:
@@ -74,6 +78,23 @@ class System(Nats):
     """As the user of the system account."""
 
     user = "s"
+
+
+def _direct(head: str, body: str) -> Optional[Dict[str, str]]:
+    """The answer to a direct get; its head has a status where there is none."""
+    status = head.splitlines()[0].split()[1:]
+    if status and status[0] != NOT_FOUND:
+        raise Refused(head.strip())
+    return None if status else {"text": body}
+
+
+def answers_itself(monitor: str, account: str, stream: str) -> bool:
+    """Whether the server whose monitor that is answers direct gets itself.
+
+    One that lags doesn't listen for them, and then another does. The list has its own alone.
+    """
+    told = Http(monitor).ask(f"/subsz?subs=1&acc={account}&test={DIRECT}.{stream}")
+    return bool(told.get("subscriptions_list"))
 
 
 def text(message: Dict[str, Any]) -> str:

@@ -7,13 +7,15 @@ killed: no agent has to be put there.
 
 from __future__ import annotations
 
+import atexit
 import json
 import os
+import shutil
 import subprocess
 import sys
 import time
 import zlib
-from typing import Any, Callable, ClassVar, Dict, List, Mapping, Sequence
+from typing import Any, Callable, ClassVar, Dict, List, Mapping, Sequence, Set
 
 from . import DIR, Refused, folder, keep, run, text_of
 
@@ -68,6 +70,12 @@ true
 )
 PUT = UNLESS_DEAD + 'files tar xpf - -C "$folder"\n'
 GET = '! is_there || files tar cf - -C "$folder" .\n'
+# $2 is what is below the folder. What runs writes on: tar says so by its status 1.
+LOOK = """
+sync -f "$folder" 2> /dev/null || sync
+took='[ ! -e "$1/$2" ] || tar cf - -C "$1" "$2" || [ $? = 1 ]'
+! is_there || files sh -c "$took" sh "$folder" "$2"
+"""
 # $3 is the user or nothing; then comes the command.
 START = (
     UNLESS_DEAD
@@ -144,6 +152,7 @@ done
 
     def __init__(self, *hosts: str) -> None:
         self.hosts: Sequence[str] = hosts
+        self._copies: Set[str] = set()
 
     def host(self, n: int) -> str:
         """The place of a process."""
@@ -254,6 +263,24 @@ done
         if files:
             subprocess.run(["tar", "xpf", "-", "-C", folder(n)], input=files, check=True)
         keep(self._put_before(n), json.dumps(stamps(folder(n))))
+
+    def fetched(self, n: int, *below: str) -> str:
+        """What stands below its folder there, as a copy beside its folder here.
+
+        It is synced there first. A hook that runs on has one copy of each process.
+        """
+        if self.is_shared:
+            return folder(n, *below)
+        copy = f"{DIR}/.seen{n}-{os.getpid()}"
+        files = self.ask(n, LOOK, os.path.join(".", *below))
+        if copy not in self._copies:
+            atexit.register(shutil.rmtree, copy, ignore_errors=True)
+            self._copies.add(copy)
+        shutil.rmtree(copy, ignore_errors=True)
+        os.makedirs(copy)
+        if files:
+            subprocess.run(["tar", "xf", "-", "-C", copy], input=files, check=True)
+        return os.path.join(copy, *below)
 
     # What hooks wrote here.
 

@@ -1,25 +1,14 @@
-"""What a cluster file says of its processes and actors."""
+"""What a guard tells of its cluster: the places of its processes, and its actors."""
 
 from __future__ import annotations
 
-import importlib
+import tempfile
 from dataclasses import dataclass
-from pathlib import Path
 from typing import Any, FrozenSet, Mapping, Tuple
 
 from .enums import Key, Kind, Role
-from .errors import ConfigRefused, NotOffered
+from .errors import ConfigRefused, NotFound
 from .programs import StrPath
-
-
-def _toml() -> Any:
-    """Python's reader of TOML since 3.11, or the package that it comes from."""
-    for name in ("tomllib", "tomli"):
-        try:
-            return importlib.import_module(name)
-        except ImportError:
-            pass
-    raise NotOffered("reading a cluster file asks for Python 3.11, or for the package tomli")
 
 
 @dataclass(frozen=True)
@@ -41,29 +30,32 @@ class ClusterFile:
 
     @classmethod
     def read(cls, config: StrPath) -> ClusterFile:
-        """Reads a cluster file that a guard has accepted; takes Python 3.11 or `tomli`."""
-        return cls.parse(Path(config).read_bytes())
+        """Has a guard read a cluster file: the program, or where there is none the library."""
+        from .guard import Guard  # which answers this class
+
+        try:
+            guard = Guard(config)
+        except NotFound as no_program:
+            try:
+                guard = Guard(config, transport="library")
+            except NotFound:
+                raise no_program from None
+        with guard:
+            return guard.cluster()
 
     @classmethod
     def parse(cls, text: bytes) -> ClusterFile:
-        """Reads the text of a cluster file that a guard has accepted."""
-        try:
-            document = _toml().loads(text.decode())
-        except ValueError as fault:  # the program reads TOML 1.1
-            raise ConfigRefused(f"the cluster file is read as TOML 1.0: {fault}") from None
-        places = [
-            {key: place[key.value] for key in Key if key.value in place}
-            for place in document["process"]
-        ]
-        actors = [
-            Actor(
-                Role(actor["role"]),
-                frozenset(
-                    Kind(kind) for grant in actor.get("grants", ()) for kind in grant["kinds"]
-                ),
-            )
-            for actor in document["actor"]
-        ]
+        """Reads the text of a cluster file, as `read` reads its file."""
+        with tempfile.NamedTemporaryFile(prefix="faultyard-") as file:
+            file.write(text)
+            file.flush()
+            return cls.read(file.name)
+
+    @classmethod
+    def of(cls, told: Mapping[str, Any]) -> ClusterFile:
+        """What a guard tells to the question `cluster`."""
+        places = [{key: name for key in Key if (name := it[key.value])} for it in told["process"]]
+        actors = [Actor(Role(it["role"]), _kinds(it["grants"])) for it in told["actor"]]
         return cls(tuple(places), tuple(actors))
 
     def actor(self, role: Role) -> int:
@@ -77,3 +69,7 @@ class ClusterFile:
         """The processes whose key has the value, whatever became of them."""
         numbered = enumerate(self.places)
         return frozenset(process for process, place in numbered if place.get(key) == value)
+
+
+def _kinds(grants: Any) -> FrozenSet[Kind]:
+    return frozenset(Kind(kind) for grant in grants for kind in grant["kinds"])
