@@ -10,14 +10,16 @@ Struck, barred, refused and replied is what the replies say. A record is acknowl
 delivery of an acknowledgement was answered so. A holder of a record has synced it and isn't
 destroyed. A record outlived the loss of a holder where one order or more destroyed holders of it
 once it was acknowledged, and a holder was left each time; of all but one where one was left. What
-the disks hold is read off the entries; nothing is asked of the program. The audit of a nemesis has
-no records: what became of those that it wrote says its `verdict.jsonl` beside the audit.
+the disks hold is read off the entries; where each process stands is asked of the program, which
+FAULTYARD names. The audit of a nemesis has no records: what became of those that it wrote says its
+`verdict.jsonl` beside the audit.
 """
 from __future__ import annotations
 
 import json
+import os
+import subprocess
 import sys
-import tomllib
 from collections import Counter
 from collections.abc import Iterable
 from pathlib import Path
@@ -227,12 +229,12 @@ def judged(folder: Path) -> Counter[str]:
 
 
 def processes_of(config: str) -> list[dict[str, str]]:
-    """The processes of a cluster file; none of one that can't be read, of which no audit can be
-    legal."""
-    try:
-        return [dict(it) for it in tomllib.loads(Path(config).read_text())["process"]]
-    except (ValueError, KeyError, TypeError):
-        return []
+    """The processes of a cluster file, as `guard` tells them; none of one that it refuses, of which
+    no audit can be legal."""
+    words = [os.environ.get("FAULTYARD", "faultyard"), "guard", config, "--questions"]
+    told = subprocess.run(words, input=b'{"ask":{"cluster":{}}}\n', capture_output=True).stdout
+    lines = told.splitlines()[1:]
+    return [dict(it) for line in lines for it in json.loads(line)["told"]["cluster"]["process"]]
 
 
 def audits(config: str) -> int:

@@ -17,6 +17,7 @@ from .places import Place
 
 AGAIN = 0.1  # seconds until a hook that said no is asked again
 LOOKS = 1.0  # seconds between two questions whether a process lives whose `start` returned at once
+SHARED = "units:here"  # by which processes have the folders that are here
 DEAD = 5.0  # seconds of `ready` that says no, after which such a process counts as ended
 
 
@@ -25,6 +26,8 @@ def refused(words: Namespace, names: Collection[str], granted: Collection[Kind])
     away = "by the hook `kill` the processes are elsewhere"
     if words.on and "kill" not in names:
         return f"--on {words.on}: these hooks have no `kill`, so they run nothing there"
+    if words.on and "here" in names and words.on != SHARED:
+        return f"--on {words.on}: by `here` these hooks read files of what runs, so it runs here"
     if words.disks == OWN and "power" not in names:
         return f"--disks own needs a hook `power`{because(words.on, 'power')}"
     if words.disks == OWN and words.deaf_disks:

@@ -283,11 +283,15 @@ def unwritten(
     """The first read of each key that isn't an acknowledged record's, and told what nobody wrote
     there. A key that the tool never writes is the store's own, unless it looks like the tool's."""
     found: dict[str, Operation] = {}
+    written: dict[str, Set[str | None]] = {}  # of each key once: some are written all the time
     for read in reads:
-        is_ours = read.key in writes or read.key.startswith(PREFIX)
-        values = {write.value for write in writes.get(read.key, ())} | {None}
-        if is_ours and read.key not in acked and read.value not in values:
-            found.setdefault(read.key, read)
+        key = read.key
+        if key in acked or not (key in writes or key.startswith(PREFIX)):
+            continue
+        if key not in written:
+            written[key] = {None, *(write.value for write in writes.get(key, ()))}
+        if read.value not in written[key]:
+            found.setdefault(key, read)
     return list(found.values())
 
 

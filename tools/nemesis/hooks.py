@@ -25,6 +25,8 @@ KNOWN |= {"check", "get", "salvage", "files", "stop", "rescue"}
 KNOWN |= {"kill", "empty", "fetch", "power", "cut", "mend", "name"}
 # These are no hooks, but promises: no answer of check lags; records stand in files as written.
 KNOWN |= {"fresh", "plain"}
+# And these read files of what runs: so that has to be on this machine.
+KNOWN |= {"here"}
 # Some copy: they have six times as long.
 SLOW = {"hooks", "setup", "join", "elect", "read", "salvage", "fetch", "rescue"}
 # One without the other is wrong.

@@ -297,6 +297,8 @@ async def chaos(words: argparse.Namespace, machine: Machine) -> int:
             raise
         finally:
             run.history.flush()
+    for copy in words.out.glob(".seen*"):  # of files elsewhere, by hooks that were ended
+        shutil.rmtree(copy)
     status = report(run)
     run.note("over", status=status, told=closing(run.judged))
     if status == NONE_LOST and not words.keep:

@@ -4,17 +4,19 @@ from __future__ import annotations
 
 from collections.abc import Iterator, Sequence
 from pathlib import Path
+from typing import NamedTuple
 from xml.sax.saxutils import escape
 
 from faultyard import ClusterFile, Key, Kind
 
-from .timeline import QUIET, Lane, Partition, Record, State, Struck, Timeline
+from .timeline import QUIET, Lane, Partition, Record, Spell, State, Struck, Timeline
 from .timeline import gaps, rates, timeline, zones
 
 WIDE = 1400  # pixels, however long the run was
 LEFT, RIGHT, LETTER = 150, 24, 6.3  # of the plot, and of a letter
 CHART = 84  # how high the curve of the writes is
 MOST_LETTERS = 205  # of a line below
+EVENTS = "events.jsonl"  # has all of them
 LISTED = 12  # orders that are explained below; a picture is no log
 KINDS = dict.fromkeys(("lost", "wrong", "unwritten", "damaged", "missing"), "lost")
 KINDS |= {"stale": "stale"}
@@ -55,6 +57,8 @@ text { fill: var(--ink); } .faint { fill: var(--faint); } .title { font-size: 15
 .up { fill: var(--up); } .down { fill: var(--down); } .emptied { fill: var(--emptied); }
 .healing { fill: var(--healing); } .gone { fill: var(--gone); }
 .clog { fill: none; stroke: var(--clog); stroke-width: 2; stroke-dasharray: 3 2; }
+.disturbed { fill: none; stroke: var(--healing); stroke-width: 2; }
+.damaged { fill: none; stroke: var(--emptied); stroke-width: 2; }
 .order circle { fill: var(--paper); stroke: var(--ink); stroke-width: 1.3; }
 .order text { font-size: 10px; font-weight: 600; text-anchor: middle; }
 .lessened circle { stroke: var(--healing); stroke-width: 2.6; }
@@ -87,6 +91,18 @@ def number(value: float) -> str:
     return f"{value:.1f}".removesuffix(".0")
 
 
+class Rows(NamedTuple):
+    """Times that stand in rows below the curve, as bars of some class."""
+
+    label: str
+    kind: str
+    bars: Sequence[tuple[float, float, str, str]]  # from when to when, a word, and what is told
+
+    def places(self) -> list[int]:
+        """The row of each bar."""
+        return rows_of([(begin, end) for begin, end, *_ in self.bars])
+
+
 class _Picture:
     def __init__(self, run: Timeline, file: ClusterFile, told: Sequence[str]) -> None:
         self.run, self.file, self.told = run, file, told
@@ -98,8 +114,8 @@ class _Picture:
         strips = {record.verdict for record in run.records}
         order = ("lost", "wrong", "unwritten", "damaged", "missing", "stale", "unreadable")
         self.strips = [it for it in order if it in strips]
-        self.rows = rows_of(run.partitions)
-        rows = len(self.strips) + max(self.rows, default=-1) + 1
+        self.rows = [it for it in self.all_rows() if it.bars]
+        rows = len(self.strips) + sum(max(it.places()) + 1 for it in self.rows)
         self.lanes_top = self.top + CHART + 18 + 16 * rows + 12
         self.zones = zones(file)
         self.bottom = self.lanes_top + len(self.names) * self.high + 6 * len(self.zones)
@@ -120,7 +136,7 @@ class _Picture:
         yield from self.legend(self.top - 38)
         yield from self.chart()
         yield from self.records()
-        yield from self.partitions()
+        yield from self.faults_in_rows()
         yield from self.grid()
         yield from self.lanes()
         if self.run.seconds - self.run.written > 0.05 * self.run.seconds:
@@ -216,18 +232,31 @@ class _Picture:
                 told = f"{record.key}, {record.t:.2f} s, {record.verdict}: {record.fault}"
                 yield f"<title>{escape(told)}</title></path>"
 
-    def partitions(self) -> Iterator[str]:
-        """When some didn't hear others."""
+    def all_rows(self) -> Iterator[Rows]:
+        """When some didn't hear others, were disturbed, or had a damaged disk."""
+        parts = [(it.begin, it.end, it.shape, self.sides(it)) for it in self.run.partitions]
+        yield Rows("partitions", "clog", parts)
+        for kind in ("disturbed", "damaged"):
+            its = [it for it in self.run.spells if it.is_damage == (kind == "damaged")]
+            yield Rows(kind, kind, [(it.begin, it.end, it.kind, self.spell(it)) for it in its])
+
+    def faults_in_rows(self) -> Iterator[str]:
         top = self.top + CHART + 18 + 16 * len(self.strips)
-        if self.run.partitions:
-            yield f'<text x="16" y="{top + 4}">partitions</text>'
-        for it, row in zip(self.run.partitions, self.rows):
-            told, y = self.sides(it), top + 16 * row
-            x, wide = self.x(it.begin), round(self.x(it.end) - self.x(it.begin), 1)
-            place = f'x="{x}" y="{y - 7}" width="{wide}" height="14"'
-            yield f'<rect {place} class="clog"><title>{escape(told)}</title></rect>'
-            if wide > LETTER * len(it.shape) + 8:
-                yield f'<text x="{x + 4}" y="{y + 4}" class="word">{escape(it.shape)}</text>'
+        for its in self.rows:
+            yield f'<text x="16" y="{top + 4}">{its.label}</text>'
+            for (begin, end, word, told), row in zip(its.bars, its.places()):
+                x, y = self.x(begin), top + 16 * row
+                wide = round(self.x(end) - x, 1)
+                place = f'x="{x}" y="{y - 7}" width="{wide}" height="14"'
+                yield f'<rect {place} class="{its.kind}"><title>{escape(told)}</title></rect>'
+                if wide > LETTER * len(word) + 8:
+                    yield f'<text x="{x + 4}" y="{y + 4}" class="word">{escape(word)}</text>'
+            top += 16 * (max(its.places()) + 1)
+
+    def spell(self, it: Spell) -> str:
+        """A disturbance or a damage, of whom, and what that was."""
+        names = " ".join(self.names[number] for number in it.processes)
+        return f"{it.begin:.1f} to {it.end:.1f} s, {it.kind} of {names}{it.told}"
 
     def sides(self, it: Partition) -> str:
         """A partition, and who is unheard by whom."""
@@ -345,9 +374,9 @@ class _Picture:
         less = [it for it in orders if it.event["rule"] and not it.event["beyond"]]
         for head, texts, name in (
             ("Records that are not kept", [*self.faults()], "records.jsonl"),
-            ("Beyond the guard", [*map(self.told_by, beyond)], "events.jsonl"),
-            ("Why no harder", [*map(self.told_by, less)], "events.jsonl"),
-            ("Partitions", [*map(self.sides, self.run.partitions)], "events.jsonl"),
+            ("Beyond the guard", [*map(self.told_by, beyond)], EVENTS),
+            ("Why no harder", [*map(self.told_by, less)], EVENTS),
+            *((it.label.capitalize(), [bar[-1] for bar in it.bars], EVENTS) for it in self.rows),
         ):
             if texts:
                 yield head
@@ -356,13 +385,13 @@ class _Picture:
                     yield f" and {len(texts) - LISTED} more, in {name}"
 
 
-def rows_of(partitions: Sequence[Partition]) -> list[int]:
+def rows_of(times: Sequence[tuple[float, float]]) -> list[int]:
     """The row of each, so that none covers another that isn't over yet."""
     ends: list[float] = []
     rows = []
-    for it in partitions:
-        row = next((row for row, end in enumerate(ends) if end <= it.begin), len(ends))
-        ends[row : row + 1] = [it.end]
+    for begin, until in times:
+        row = next((row for row, end in enumerate(ends) if end <= begin), len(ends))
+        ends[row : row + 1] = [until]
         rows.append(row)
     return rows
 

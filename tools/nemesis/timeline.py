@@ -15,6 +15,8 @@ from typing import Any
 
 from faultyard import ClusterFile, Key, Kind
 
+from .disturbances import FORMS, Disturbance
+
 QUIET = 1.0  # seconds without an acknowledgement that are shaded
 Event = Mapping[str, Any]
 
@@ -82,6 +84,18 @@ class Partition:
 
 
 @dataclass(frozen=True)
+class Spell:
+    """A time in which processes were disturbed, or the disk of one was damaged."""
+
+    begin: float
+    end: float
+    kind: str
+    processes: tuple[int, ...]
+    told: str  # what was done to them; and what came of a damage, if that is known
+    is_damage: bool = False
+
+
+@dataclass(frozen=True)
 class Record:
     """A record that isn't kept."""
 
@@ -105,6 +119,7 @@ class Timeline:
     acks: list[float]
     records: list[Record]
     partitions: list[Partition]
+    spells: list[Spell]
 
 
 def timeline(folder: Path, file: ClusterFile) -> Timeline:
@@ -120,7 +135,8 @@ def timeline(folder: Path, file: ClusterFile) -> Timeline:
         states.take(event)
     until = next((event["t"] for event in events if event["what"] == "written"), last)
     cuts = [*partitions(events, until)]
-    return Timeline(last, until, states.ended(), states.orders, acks, records, cuts)
+    its = [*spells(events, until)]
+    return Timeline(last, until, states.ended(), states.orders, acks, records, cuts, its)
 
 
 def lines_of(path: Path) -> Iterator[Event]:
@@ -139,6 +155,42 @@ def partitions(events: Iterable[Event], until: float) -> Iterator[Partition]:
             cuts = tuple((sender, receiver) for sender, receiver in event["cuts"])
             end = min(event["t"] + event["clogged"], until)
             yield Partition(event["t"], end, event["shape"], cuts)
+
+
+def spells(events: Sequence[Event], until: float) -> Iterator[Spell]:
+    """The disturbances and damages. What no event ends has ended with the writing, or the tool."""
+    ends: dict[tuple[Any, ...], Event] = {}  # the next event of each kind, seen from behind
+    found: list[Spell] = []
+    for event in reversed(events):
+        match event["what"]:
+            case "undisturbed":
+                ends[event["kind"], *event["processes"]] = event
+            case "resumed":
+                ends[()] = event
+            case "observed":
+                ends["observed", event["process"], event["of"]] = event
+            case "disturbance":
+                resumed = ends.get((), {})
+                end = ends.get((event["kind"], *event["processes"]), resumed)
+                found.append(disturbed(event, end.get("t", until)))
+            case "damage":
+                end = ends.get(("observed", event["process"], event["of"]), {})
+                found.append(damaged(event, end, until))
+    yield from reversed(found)
+
+
+def disturbed(event: Event, ended: float) -> Spell:
+    it = Disturbance.of(event)
+    return Spell(event["t"], ended, it.kind, it.processes, f": {FORMS[it.kind].tell(it.how)}")
+
+
+def damaged(event: Event, observed: Event, until: float) -> Spell:
+    """A damage, with what came of it if that is known."""
+    where = f" in {event['file']}" if "file" in event else ""
+    came = f": {observed['came']}" if observed else ""
+    last = observed.get("t", max(event["t"], until))
+    its = (event["process"],)
+    return Spell(event["t"], last, event["kind"], its, f"{where}{came}", is_damage=True)
 
 
 def acknowledged(history: Iterable[Event]) -> Iterator[float]:

@@ -14,8 +14,10 @@ import header
 import hook_lines
 import layers
 import limits
+import questions
 import targets
-from source import ROOT
+import words
+from source import ROOT, PagesError
 
 BEGIN = "<!-- begin: {}, made from the source by make pages -->"
 END = "<!-- end of what is made -->"
@@ -39,14 +41,13 @@ PARTS: tuple[tuple[str, str, Callable[[], str]], ...] = (
     ("docs/FORMATS.md", "replies", acts.replies),
     ("docs/FORMATS.md", "rules", acts.rules),
     ("docs/FORMATS.md", "refusals", acts.refusals),
+    ("docs/FORMATS.md", "questions", questions.asked),
+    ("docs/FORMATS.md", "answers", questions.answers),
+    ("docs/FORMATS.md", "examples of questions", questions.asked_and_told),
     ("docs/FORMATS.md", "limits", limits.made),
     ("docs/LIBRARY.md", "calls", header.made),
     ("docs/LIBRARY.md", "undefined", header.undefined),
 )
-
-
-class PagesError(Exception):
-    """A page can't be made."""
 
 
 def with_part(page: str, name: str, part: str) -> str:
@@ -76,9 +77,13 @@ def pages(names: Collection[str]) -> dict[Path, str]:
 
 
 def kept() -> dict[Path, str]:
-    """Each page of the repository that has a made part, and the diagram, as they should be."""
-    diagram = {ROOT / "docs/layers.svg": layers.diagram()}
-    return diagram | pages({name for name, _, _ in PARTS} - set(UNKEPT))
+    """Each page of the repository that has a made part, the diagram, and the table of words, all
+    as they should be."""
+    whole = {
+        ROOT / "docs/layers.svg": layers.diagram(),
+        ROOT / "release/words.toml": words.made(),
+    }
+    return whole | pages({name for name, _, _ in PARTS} - set(UNKEPT))
 
 
 def unkept() -> dict[Path, str]:

@@ -11,6 +11,11 @@ from pathlib import Path
 
 ROOT = Path(__file__).resolve().parents[2]
 
+
+class PagesError(Exception):
+    """A page can't be made."""
+
+
 # A crate, a file of its specs/ without the suffix, and a name there.
 Place = tuple[str, str, str]
 

@@ -8,7 +8,6 @@ import (
 
 	"faultyard"
 	"faultyard-serve/internal/book"
-	"faultyard-serve/internal/cluster"
 )
 
 // The statuses by which the server ends, which are those of the program, and one of its own.
@@ -45,13 +44,21 @@ var faults = map[error]book.Fault{
 // longer.
 func (its library) Act(text, line []byte) ([]byte, error) {
 	text, err := its.Guard.AppendAct(text, bytes.TrimSuffix(line, []byte("\n")))
-	if err == nil {
-		return text, nil
-	}
+	return text, ofLine(err)
+}
+
+// Ask answers a question. A line that the library refuses is a book.Fault.
+func (its library) Ask(line []byte) ([]byte, error) {
+	told, err := its.Guard.Ask(line)
+	return told, ofLine(err)
+}
+
+// ofLine is an error of the library about a line.
+func ofLine(err error) error {
 	if fault, is := faults[err]; is {
-		return text, fault
+		return fault
 	}
-	return text, ofLibrary(err)
+	return ofLibrary(err)
 }
 
 // ofLibrary is an error of the library as the server ends by it.
@@ -64,47 +71,6 @@ func ofLibrary(err error) error {
 		return failure{noMemory, "no memory"}
 	}
 	return err
-}
-
-var keys = map[string]faultyard.Key{
-	"processid": faultyard.Process,
-	"machineid": faultyard.Machine,
-	"zoneid":    faultyard.Zone,
-	"data_hall": faultyard.DataHall,
-	"dcid":      faultyard.DataCenter,
-}
-
-// places is a guard as a cluster asks it. Its calls fail only once the guard is closed, which it
-// never is.
-type places struct{ *faultyard.Guard }
-
-// ProcessCount is how many processes there are.
-func (its places) ProcessCount() int {
-	count, _ := its.Guard.ProcessCount()
-	return count
-}
-
-// Targets answers whom an order is about.
-func (its places) Targets(key, value string) ([]int, error) {
-	known, is := keys[key]
-	if !is {
-		return nil, fmt.Errorf("there is no key %q", key)
-	}
-	set, err := its.Guard.Targets(known, value)
-	if err != nil {
-		return nil, errors.New(strings.TrimPrefix(err.Error(), "faultyard: "))
-	}
-	numbers := make([]int, len(set))
-	for at, number := range set {
-		numbers[at] = int(number)
-	}
-	return numbers, nil
-}
-
-// State is the state of a process.
-func (its places) State(process int) cluster.State {
-	state, _, _ := its.Guard.State(uint32(process))
-	return cluster.State(state)
 }
 
 // ofAudit is why no guard goes on with an audit, in the words of `faultyard check`: a faulty line
@@ -134,7 +100,7 @@ func check(config, audit []byte) error {
 			length = len(audit)
 		}
 		if _, err := check.Line(audit[:length]); err != nil {
-			return ofLine(err, number)
+			return ofAuditLine(err, number)
 		}
 		audit = audit[length:]
 	}
@@ -147,8 +113,8 @@ var auditFaults = map[error]string{
 	faultyard.ErrLineSyntax:  "Syntax",
 }
 
-// ofLine is why a line of an audit is refused.
-func ofLine(err error, number int) error {
+// ofAuditLine is why a line of an audit is refused.
+func ofAuditLine(err error, number int) error {
 	if word, is := auditFaults[err]; is {
 		return book.Refusal{Status: refused, Why: fmt.Sprintf("audit: line %d: %s", number, word)}
 	}

@@ -13,16 +13,13 @@ import (
 	"os/exec"
 	"os/signal"
 	"path/filepath"
-	"regexp"
 	"strconv"
-	"strings"
 	"sync/atomic"
 	"syscall"
 	"time"
 
 	"faultyard"
 	"faultyard-serve/internal/book"
-	"faultyard-serve/internal/cluster"
 	"faultyard-serve/internal/door"
 	"faultyard-serve/internal/panics"
 )
@@ -75,6 +72,7 @@ type server struct {
 	lines  *door.Lines
 	web    *door.Web
 	http   *http.Server
+	actors int // of the cluster file
 	// tokens and pair are nil where there are none.
 	tokens *door.Tokens
 	pair   atomic.Pointer[tls.Certificate]
@@ -131,9 +129,19 @@ func (its *server) readAgain() {
 	}
 	if tokens != nil {
 		its.tokens.Become(tokens)
+		its.tellOfStrangers(tokens)
 	}
 	its.pair.Store(pair)
 	say("tokens and certificate are read again")
+}
+
+// tellOfStrangers says which tokens are of actors that the cluster file hasn't: they may read, and
+// each of their acts is refused.
+func (its *server) tellOfStrangers(tokens *door.Tokens) {
+	for _, actor := range tokens.Beyond(its.actors) {
+		const why = "%s: a token is of actor %d; %s has %d actors, from 0, so its acts are refused"
+		say(fmt.Sprintf(why, its.words.tokens, actor, its.words.config, its.actors))
+	}
 }
 
 // open opens the guard, and goes on with its audit.
@@ -146,11 +154,18 @@ func (its *server) open() (err error) {
 	if err != nil {
 		return ofLibrary(err)
 	}
-	processes := cluster.Processes(its.config, places{begun})
-	begun.Close()
+	cluster, err := begun.Cluster()
+	_ = begun.Close()
+	if err != nil {
+		return ofLibrary(err)
+	}
+	its.actors = len(cluster.Actors)
 	tokens, pair, err := its.words.secrets()
 	if err != nil {
 		return failure{refused, err.Error()}
+	}
+	if tokens != nil {
+		its.tellOfStrangers(tokens)
 	}
 	its.tokens = tokens
 	its.pair.Store(pair)
@@ -159,9 +174,9 @@ func (its *server) open() (err error) {
 	}
 	its.lines = &door.Lines{Book: its.book, Most: mostConnected}
 	its.web = &door.Web{
-		Book: its.book, Processes: processes, Guard: places{its.guard}, Tokens: its.tokens,
+		Book: its.book, Guard: library{its.guard}, Tokens: its.tokens,
 		Program: program(its.config), Version: libraryVersion(), Lines: its.lines,
-		Most: mostConnected, Say: say, JournalLimit: journalLimit(its.config), Beat: beat(),
+		Most: mostConnected, Say: say, Beat: beat(),
 	}
 	return nil
 }
@@ -219,19 +234,6 @@ func (its *server) tls() *tls.Config {
 			return its.pair.Load(), nil
 		},
 	}
-}
-
-// limits finds the limit of the journal in a cluster file that the library has taken.
-var limits = regexp.MustCompile(`(?m)^[ \t]*"?journal_limit"?[ \t]*=[ \t]*([0-9A-Za-z_+]+)`)
-
-// journalLimit is how many entries there may be. The library doesn't tell it.
-func journalLimit(config []byte) int {
-	found := limits.FindSubmatch(config)
-	if found == nil {
-		return 0
-	}
-	limit, _ := strconv.ParseInt(strings.TrimPrefix(string(found[1]), "+"), 0, 32)
-	return int(limit)
 }
 
 // beat is how often streams of events show that the server is there, where a test says so.

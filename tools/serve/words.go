@@ -92,7 +92,8 @@ func (its *words) complete(names []string) (*words, error) {
 		}
 		address := net.ParseIP(host)
 		if its.tokens == "" && (address == nil || !address.IsLoopback()) {
-			return nil, wrongWords("without --tokens, --listen takes an address of the loopback")
+			const why = "without --tokens, --listen takes an address of the loopback, as 127.0.0.1:7077"
+			return nil, wrongWords(why)
 		}
 	}
 	its.config = names[0]

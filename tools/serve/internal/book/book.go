@@ -5,6 +5,7 @@
 package book
 
 import (
+	"bytes"
 	"errors"
 	"fmt"
 	"io"
@@ -34,6 +35,8 @@ type Guard interface {
 	// line is refused, nothing is entered, the text is as it was, and the error is a Fault. Any other
 	// error ends the book.
 	Act(text, line []byte) ([]byte, error)
+	// Ask answers the line of what is told to the line of a question, or an error as Act does.
+	Ask(line []byte) ([]byte, error)
 	// Entry answers the line of the entry at a place, from 0.
 	Entry(at int) ([]byte, error)
 }
@@ -114,11 +117,13 @@ func (turn *Turn) keep(line []byte) []byte {
 // again.
 type Party struct {
 	Turns []*Turn
-	woken chan bool // true where the party is to lead
+	// Wake is called once for a party that joined others: it was answered, or it is to lead. Whoever
+	// leads calls it, so it returns at once.
+	Wake func(leads bool)
 }
 
 // NewParty is a party of these turns.
-func NewParty(turns ...*Turn) *Party { return &Party{turns, make(chan bool, 1)} }
+func NewParty(turns ...*Turn) *Party { return &Party{Turns: turns} }
 
 // Stats counts what a book did since it was opened.
 type Stats struct {
@@ -165,16 +170,28 @@ func (book *Book) Submit(turn *Turn) { book.SubmitAll(NewParty(turn)) }
 
 // SubmitAll does so for each turn of a party, in their order.
 func (book *Book) SubmitAll(party *Party) {
-	book.lock.Lock()
-	book.waiting = append(book.waiting, party)
-	if book.led {
-		book.lock.Unlock()
-		if leads := <-party.woken; !leads {
-			return
-		}
-		book.lock.Lock()
+	woken := make(chan bool, 1)
+	party.Wake = func(leads bool) { woken <- leads }
+	if book.Join(party) || <-woken {
+		book.Lead(party)
 	}
+}
+
+// Join puts a party to those who wait, and says whether it is to lead. Where another leads, the
+// party is woken later. Its caller may do something else until then.
+func (book *Book) Join(party *Party) (leads bool) {
+	book.lock.Lock()
+	defer book.lock.Unlock()
+	book.waiting = append(book.waiting, party)
+	leads = !book.led
 	book.led = true
+	return leads
+}
+
+// Lead makes the acts of all who wait, of whom the party is one that is to lead. It returns once
+// each entry is on the disk.
+func (book *Book) Lead(party *Party) {
+	book.lock.Lock()
 	parties, stop := book.waiting, book.stop
 	book.waiting = book.spare[:0]
 	book.lock.Unlock()
@@ -186,7 +203,7 @@ func (book *Book) SubmitAll(party *Party) {
 	book.serve(book.turns, stop)
 	for _, other := range parties {
 		if other != party {
-			other.woken <- false
+			other.Wake(false)
 		}
 	}
 	book.handOn(parties)
@@ -205,12 +222,16 @@ func (book *Book) Patience() time.Duration {
 
 // handOn lets the first of those who wait lead. The list of those who were served is used again.
 func (book *Book) handOn(served []*Party) {
+	var next *Party
 	book.lock.Lock()
-	defer book.lock.Unlock()
 	book.spare = served
 	book.led = len(book.waiting) > 0
 	if book.led {
-		book.waiting[0].woken <- true
+		next = book.waiting[0]
+	}
+	book.lock.Unlock()
+	if next != nil {
+		next.Wake(true)
 	}
 }
 
@@ -309,6 +330,11 @@ func (book *Book) commit(turns []*Turn) error {
 // make makes one act, unless its actor gave its key to an act before. The line of a new entry is
 // answered where it stands in the buffer.
 func (book *Book) make(ask Ask, stats *Stats) (Answer, error) {
+	if ask.Once == "" && !bytes.HasPrefix(ask.Line, usualAct) {
+		if answer, is, err := book.tell(ask.Line, stats); is {
+			return answer, err
+		}
+	}
 	asked, fault := readAsk(ask)
 	if fault != "" {
 		stats.Refused++
@@ -338,6 +364,22 @@ func (book *Book) make(ask Ask, stats *Stats) (Answer, error) {
 	book.made = append(book.made, len(buffer))
 	stats.Made++
 	return Answer{Line: buffer[before:]}, nil
+}
+
+// usualAct is how the lines of acts begin, but for few. No question begins so.
+var usualAct = []byte(`{"by":`)
+
+// tell answers a line that is a question. It enters nothing.
+func (book *Book) tell(line []byte, stats *Stats) (answer Answer, is bool, err error) {
+	answer.Line, err = book.guard.Ask(line)
+	if fault, isFault := FaultOf(err); isFault {
+		if fault != Floor {
+			return answer, false, nil // It may be an act.
+		}
+		stats.Refused++
+		answer.Err, err = fault, nil
+	}
+	return answer, true, err
 }
 
 // unread is the fault of an act with whose entry the audit might not be read again: the guard

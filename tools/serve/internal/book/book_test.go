@@ -58,6 +58,15 @@ func beginStill(test *testing.T) (its *kept, goesOn func(time.Duration)) {
 
 var entries = regexp.MustCompile(`^{"act":(.*),"at":\d+,"by":(\d+),"reply":"done"}\n$`)
 
+// Ask says Syntax as a book wants it.
+func (its *guard) Ask(line []byte) ([]byte, error) {
+	told, fault := its.Scribe.Ask(line)
+	if fault != "" {
+		return nil, Fault(fault)
+	}
+	return told, nil
+}
+
 // after is a guard that makes the acts of an audit again.
 func after(audit []byte) (Guard, error) {
 	its := &guard{Scribe: scribe.Scribe{Most: 1000}}

@@ -13,7 +13,6 @@ import (
 	"time"
 
 	"faultyard-serve/internal/book"
-	"faultyard-serve/internal/cluster"
 )
 
 //go:embed assets
@@ -34,32 +33,13 @@ func asset(name, kind string) func(*Web, http.ResponseWriter, *http.Request) {
 
 // act makes an act, and answers its entry.
 func (web *Web) act(writer http.ResponseWriter, request *http.Request) {
-	// Another server's page can't send this type without being asked first, which isn't answered.
-	kind, _, err := mime.ParseMediaType(request.Header.Get("Content-Type"))
-	if err != nil || kind != "application/json" {
-		fail(writer, http.StatusUnsupportedMediaType, "the body has to be application/json")
-		return
-	}
 	key, err := onceOf(request)
 	if err != nil {
 		failOf(writer, err)
 		return
 	}
-	patience(request, bodyLimit)
-	body, err := io.ReadAll(http.MaxBytesReader(writer, request.Body, mostLine))
-	patience(request, answerLimit)
-	var tooLarge *http.MaxBytesError
-	switch {
-	case errors.As(err, &tooLarge):
-		failOf(writer, book.TooLong)
-		return
-	case err != nil:
-		fail(writer, http.StatusBadRequest, "the body ended too soon")
-		return
-	}
-	line, status, why := web.lineOf(body, request)
-	if why != "" {
-		fail(writer, status, why)
+	line := web.line(writer, request)
+	if line == nil {
 		return
 	}
 	turn := book.NewTurn()
@@ -75,6 +55,34 @@ func (web *Web) act(writer http.ResponseWriter, request *http.Request) {
 		writer.Header().Set("Idempotency-Replayed", "true")
 	}
 	_, _ = writer.Write(answer.Line)
+}
+
+// line is the line of the act that a request asks for. Where there is none, it answers why.
+func (web *Web) line(writer http.ResponseWriter, request *http.Request) []byte {
+	// Another server's page can't send this type without being asked first, which isn't answered.
+	kind, _, err := mime.ParseMediaType(request.Header.Get("Content-Type"))
+	if err != nil || kind != "application/json" {
+		fail(writer, http.StatusUnsupportedMediaType, "the body has to be application/json")
+		return nil
+	}
+	patience(request, bodyLimit)
+	body, err := io.ReadAll(http.MaxBytesReader(writer, request.Body, mostLine))
+	patience(request, answerLimit)
+	var tooLarge *http.MaxBytesError
+	switch {
+	case errors.As(err, &tooLarge):
+		failOf(writer, book.TooLong)
+		return nil
+	case err != nil:
+		fail(writer, http.StatusBadRequest, "the body ended too soon")
+		return nil
+	}
+	line, status, why := web.lineOf(body, request)
+	if why != "" {
+		fail(writer, status, why)
+		return nil
+	}
+	return line
 }
 
 // onceOf is the key of the act that a request asks for, if it has one. It may stand in quotes, as
@@ -128,40 +136,25 @@ func (web *Web) lineOf(body []byte, request *http.Request) (line []byte, status 
 	return line, 0, ""
 }
 
-// status answers who is up, down, destroyed and gone.
+// status answers who is up, down, destroyed and gone, as far as it is on the disk.
 func (web *Web) status(writer http.ResponseWriter, _ *http.Request) {
-	state, err := web.state()
+	var its seen
+	var entries int
+	err := web.view(func() (err error) {
+		entries = web.Book.Stats().Entries
+		its, err = web.seen()
+		return err
+	})
 	if err != nil {
 		failOf(writer, err)
 		return
 	}
-	writeJSON(writer, http.StatusOK, state)
-}
-
-// state is what the page shows of the processes.
-type state struct {
-	Version   string            `json:"version"`
-	Audit     string            `json:"audit"`
-	Entries   int               `json:"entries"`
-	Processes []cluster.Process `json:"processes"`
-}
-
-// state is the state that is on the disk.
-func (web *Web) state() (its state, err error) {
-	its.Version, its.Audit = web.Version, web.Book.ID()
-	err = web.Book.View(func() {
-		its.Entries, its.Processes = web.Book.Stats().Entries, web.seen()
-	})
-	return its, err
-}
-
-// seen is the processes as the guard sees them now: an act that it made may not be on the disk yet.
-func (web *Web) seen() []cluster.Process {
-	its := append([]cluster.Process{}, web.Processes...)
-	for number := range its {
-		its[number].State = web.Guard.State(number)
-	}
-	return its
+	writeJSON(writer, http.StatusOK, struct {
+		Version   string    `json:"version"`
+		Audit     string    `json:"audit"`
+		Entries   int       `json:"entries"`
+		Processes []process `json:"processes"`
+	}{web.Version, web.Book.ID(), entries, its.processes})
 }
 
 // audit answers the audit, or its entries from one on.
@@ -205,31 +198,6 @@ func (web *Web) entries(writer http.ResponseWriter, request *http.Request, from 
 		}
 		at = next
 	}
-}
-
-// targets answers whom an order of a key and a value is about.
-func (web *Web) targets(writer http.ResponseWriter, request *http.Request) {
-	query := request.URL.Query()
-	key, value := query.Get("key"), query.Get("value")
-	found := []map[string]any{}
-	var err error
-	stop := web.Book.View(func() {
-		var numbers []int
-		numbers, err = web.Guard.Targets(key, value)
-		for _, number := range numbers {
-			its := web.Processes[number]
-			found = append(found, map[string]any{"number": number, "processid": its.Name})
-		}
-	})
-	if stop != nil {
-		failOf(writer, stop)
-		return
-	}
-	if err != nil {
-		fail(writer, http.StatusBadRequest, err.Error())
-		return
-	}
-	writeJSON(writer, http.StatusOK, map[string]any{"processes": found})
 }
 
 // healthz says whether acts are made, and the disk answers.

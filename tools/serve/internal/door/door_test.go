@@ -25,17 +25,18 @@ import (
 	"unsafe"
 
 	"faultyard-serve/internal/book"
-	"faultyard-serve/internal/cluster"
 	"faultyard-serve/internal/scribe"
 )
 
-// guard is the guard of a test: a scribe, of two processes that nothing ever strikes.
+// guard is the guard of a test: a scribe.
 type guard struct {
 	scribe.Scribe
 	failed error // what each act ends in, if anything
 	blind  error // what each look at an entry ends in, if anything
-	broken any   // what each look at a process panics with, if anything
+	broken any   // what each question panics with, if anything
 	audit  string
+	// Each act says that it is made, and waits until it may be, if at all.
+	made, mayBe chan bool
 }
 
 // entry is the line of an entry, from 0.
@@ -48,14 +49,16 @@ func (its *guard) Act(text, line []byte) ([]byte, error) {
 	if its.failed != nil {
 		return text, its.failed
 	}
+	if its.made != nil {
+		its.made <- true
+		<-its.mayBe
+	}
 	entry, fault := its.Scribe.Act(line)
 	if fault != "" {
 		return text, book.Fault(fault)
 	}
 	return append(text, entry...), nil
 }
-
-func (its *guard) ProcessCount() int { return 2 }
 
 func (its *guard) Entry(at int) ([]byte, error) {
 	if its.blind != nil {
@@ -64,23 +67,15 @@ func (its *guard) Entry(at int) ([]byte, error) {
 	return its.Scribe.Entry(at)
 }
 
-func (its *guard) State(int) cluster.State {
+func (its *guard) Ask(line []byte) ([]byte, error) {
 	if its.broken != nil {
 		panic(its.broken)
 	}
-	return cluster.State{Up: true}
-}
-
-func (its *guard) Targets(key, value string) ([]int, error) {
-	first, known := map[string]string{"processid": "p", "machineid": "m", "zoneid": "z"}[key]
-	if !known {
-		return nil, errors.New("there is no such key")
+	told, fault := its.Scribe.Ask(line)
+	if fault != "" {
+		return nil, book.Fault(fault)
 	}
-	number, err := strconv.Atoi(strings.TrimPrefix(value, first))
-	if err != nil || number > 1 {
-		return nil, nil
-	}
-	return []int{number}, nil
+	return told, nil
 }
 
 // never is a while that doesn't go by: the book of a test waits for its disk as long as it takes.
@@ -100,9 +95,8 @@ func begin(test *testing.T, most int) *Web {
 		test.Fatal(err)
 	}
 	test.Cleanup(func() { _ = kept.Close() })
-	config := []byte(`p0 m0 z0, p1 m1 z1`)
 	return &Web{
-		Book: kept, Guard: its, Processes: cluster.Processes(config, its), Version: "1.2.3",
+		Book: kept, Guard: its, Version: "1.2.3",
 		Lines: &Lines{Book: kept, Most: 8}, Most: 8, Say: func(what string) { test.Error(what) },
 	}
 }
@@ -155,11 +149,26 @@ func same(test *testing.T, what string, got, wanted any) {
 type api struct {
 	Paths map[string]map[string]struct {
 		Security  *[]any
-		Responses map[string]struct {
-			Content map[string]struct{ Schema map[string]any }
-		}
+		Responses map[string]response
 	}
-	Components struct{ Schemas map[string]map[string]any }
+	Components struct {
+		Schemas   map[string]map[string]any
+		Responses map[string]response
+	}
+}
+
+// response is an answer, or names one of the components.
+type response struct {
+	Ref     string `json:"$ref"`
+	Content map[string]struct{ Schema map[string]any }
+}
+
+// answer is what an operation answers with a status.
+func (its api) answer(described response) response {
+	if described.Ref != "" {
+		return its.Components.Responses[strings.TrimPrefix(described.Ref, "#/components/responses/")]
+	}
+	return described
 }
 
 func readAPI(test *testing.T) api {
@@ -260,7 +269,8 @@ func script(test *testing.T, text string) *Program {
 	return &Program{Path: path, Config: []byte("config"), Patience: 24 * time.Hour}
 }
 
-const borne = `echo '{"processes":2,"destroyed":[],"gone":[],"down":[],"losses":[],"warnings":[]}'`
+// clog is what is asked about, and what may be.
+const clog = `{"by":1,"act":{"clog":{"key":"zoneid","value":"z1"}}}`
 
 // apiCases are requests, with the status that the description has for each.
 func apiCases(test *testing.T) map[string][]*httptest.ResponseRecorder {
@@ -270,26 +280,33 @@ func apiCases(test *testing.T) map[string][]*httptest.ResponseRecorder {
 		told[name] = append(told[name], ask(web, body, words...))
 	}
 	web := begin(test, 2)
-	web.Program = script(test, borne)
+	web.Program = script(test, "echo picture")
 	add(web, "x", "POST /v1/acts")
 	add(web, up, "POST /v1/acts", "Idempotency-Key: a")
 	add(web, up, "POST /v1/acts", "Idempotency-Key: a")
 	add(web, strings.Replace(up, "0", "1", 1), "POST /v1/acts", "Idempotency-Key: a")
-	add(web, up, "POST /v1/acts", "Content-Type: text/plain")
-	add(web, strings.Repeat(" ", 70_000), "POST /v1/acts")
+	add(web, clog, "POST /v1/judge")
+	for _, path := range []string{"POST /v1/acts", "POST /v1/judge"} {
+		add(web, up, path, "Content-Type: text/plain")
+		add(web, strings.Repeat(" ", 70_000), path)
+	}
+	add(web, up, "POST /v1/judge")
 	for _, path := range []string{
 		"/v1/status", "/v1/audit", "/v1/audit?from=1", "/v1/audit?from=x", "/v1/events?from=x",
 		"/v1/targets?key=processid&value=p1", "/v1/targets?key=x&value=p1", "/v1/bears",
+		"/v1/killable?actor=1", "/v1/killable?actor=x", "/v1/state?process=2", "/v1/state?process=-",
+		"/v1/cluster", "/v1/record?record=0", "/v1/record", "/v1/needed?process=0", "/v1/needed",
+		"/v1/sight",
 		"/picture.svg", "/metrics", "/healthz", "/openapi.json",
 	} {
 		add(web, "", "GET "+path)
 	}
 	add(web, up, "POST /v1/acts")
 	add(web, up, "POST /v1/acts") // The journal is full.
-	for _, route := range routes[:8] {
+	for _, route := range routes[:15] {
 		add(web, up, route.method+" "+route.path, "Host: example.org")
 	}
-	for _, route := range routes[:10] {
+	for _, route := range routes[:17] {
 		last := httptest.NewRequest(route.method, route.path, nil)
 		late := &guest{crowd: &web.crowd, isLast: route.path != "/healthz"}
 		last = last.WithContext(context.WithValue(last.Context(), connectionKey{}, net.Conn(late)))
@@ -302,14 +319,12 @@ func apiCases(test *testing.T) map[string][]*httptest.ResponseRecorder {
 		told[route.method+" "+route.path] = append(told[route.method+" "+route.path], answer)
 	}
 	tokens := withTokens(test, begin(test, 2))
-	for _, route := range routes[:8] {
+	for _, route := range routes[:15] {
 		add(tokens, up, route.method+" "+route.path)
 	}
 	web = begin(test, 2)
-	add(web, "", "GET /v1/bears")
 	add(web, "", "GET /picture.svg")
 	web.Program = script(test, "exit 3")
-	add(web, "", "GET /v1/bears")
 	add(web, "", "GET /picture.svg")
 	_ = web.Book.Close()
 	add(web, up, "POST /v1/acts")
@@ -350,7 +365,7 @@ func TestTheDescriptionIsWhatTheHandlersAnswer(test *testing.T) {
 				continue
 			}
 			kind, _, _ := strings.Cut(answer.Header().Get("Content-Type"), ";")
-			content, has := described.Content[kind]
+			content, has := its.answer(described).Content[kind]
 			if !has {
 				test.Errorf("%s is %s", name, kind)
 				continue
@@ -420,6 +435,44 @@ func TestNobodyOrdersWithoutATokenOfItsActor(test *testing.T) {
 		status = ask(web, "", route.method+" "+route.path, read).Code
 		same(test, route.path+" with a token that reads", status == 401, false)
 	}
+}
+
+func TestAQuestionIsNoEntryWhoeverAsks(test *testing.T) {
+	web := withTokens(test, begin(test, 100))
+	const one, two, read = "Authorization: Bearer one-one-one-one-one",
+		"Authorization: Bearer two-two-two-two-two", "Authorization: Bearer read-read-read-read"
+	judge := strings.Replace(clog, `"by":1,`, "", 1)
+	for _, row := range []struct {
+		body, token string
+		status      int
+	}{{clog, one, 200}, {judge, one, 200}, {clog, two, 403}, {clog, read, 403}, {judge, read, 403}} {
+		answer := ask(web, row.body, "POST /v1/judge", row.token, "Idempotency-Key: a")
+		same(test, row.body+" by "+row.token, answer.Code, row.status)
+		if answer.Code == 200 {
+			same(test, "what is told", answer.Body, "{\"told\":{\"ruled\":null}}\n")
+		}
+	}
+	told := ask(web, "", "GET /v1/killable?actor=1", read).Body.String()
+	same(test, "what is told", told, "{\"told\":{\"killable\":[null,null]}}\n")
+	same(test, "the entries", web.Book.Stats().Entries, 0)
+	same(test, "the key is free", ask(web, up, "POST /v1/acts", one, "Idempotency-Key: a").Code, 200)
+}
+
+func TestALineThatAsksIsTold(test *testing.T) {
+	web := begin(test, 2)
+	const sight, told = `{"ask":{"sight":{}}}`, "{\"told\":{\"sight\":{\"now\":2}}}\n"
+	refused := func(number int, fault string) string {
+		return fmt.Sprintf("{\"refused\":\"script: line %d: %s\"}\n", number, fault)
+	}
+	lines := []string{
+		sight, up, " " + sight + " ", `{"once":"a",` + sight[1:], `{"ask":{"sights":{}}}`, up, sight,
+		strings.Repeat(" ", 65_517) + sight,
+	}
+	got := talk(test, web, strings.Join(lines, "\n"))
+	wanted := book.Header + told + string(entry(web, 0)) + told + refused(4, "Syntax") +
+		refused(5, "Syntax") + string(entry(web, 1)) + told + refused(8, "TooLong")
+	same(test, "the answers", got, wanted)
+	same(test, "the entries", web.Book.Stats().Entries, 2)
 }
 
 func TestAnotherServersPageOrdersNothing(test *testing.T) {
@@ -619,15 +672,12 @@ func TestEventsComeAsTheyAreMade(test *testing.T) {
 
 func TestTheProgramReadsWhatIsOnTheDisk(test *testing.T) {
 	web := begin(test, 100)
-	const tells = `echo "$*"; cat "$2"; echo; cat; [ "$1" = bears ] || tail -n +2 "$4"; echo x >&2`
+	const tells = `echo "$*"; cat "$2"; echo; cat; tail -n +2 "$4"; echo x >&2`
 	web.Program = script(test, tells)
 	ask(web, up, "POST /v1/acts")
 	entry := entry(web, 0)
-	told := ask(web, "", "GET /v1/bears").Body.String()
-	wanted := "bears /dev/fd/3 --json --after /dev/stdin\nconfig\n" + book.Header + string(entry)
-	same(test, "bears", told, wanted)
-	told = ask(web, "", "GET /picture.svg").Body.String()
-	wanted = "show /dev/fd/3 --times /dev/fd/4\nconfig\n" + book.Header + string(entry)
+	told := ask(web, "", "GET /picture.svg").Body.String()
+	wanted := "show /dev/fd/3 --times /dev/fd/4\nconfig\n" + book.Header + string(entry)
 	wanted += `{"entry":0,"t":`
 	same(test, "show", strings.HasPrefix(told, wanted), true)
 	again := ask(web, "", "GET /picture.svg").Body.String()
@@ -857,6 +907,68 @@ func TestOneIsAloneAndThenBesideOthers(test *testing.T) {
 		_ = other.Close()
 	}
 	same(test, "the entries", web.Book.Stats().Entries, at)
+}
+
+// TestNobodyAtTheSocketWaitsForAnothersDisk has an act of HTTP take its time, as on a slow disk,
+// and lines of the socket wait behind it. Who reads there is answered meanwhile, and whoever acts
+// there shares the next sync.
+func TestNobodyAtTheSocketWaitsForAnothersDisk(test *testing.T) {
+	web := begin(test, 100)
+	its := web.Guard.(*guard)
+	its.made, its.mayBe = make(chan bool, 8), make(chan bool)
+	var once sync.Once
+	goOn := func() { once.Do(func() { close(its.mayBe) }) }
+	defer goOn()
+	path := filepath.Join(test.TempDir(), "socket")
+	listener, err := ListenSocket(path, 0o600)
+	if err != nil {
+		test.Fatal(err)
+	}
+	defer listener.Close()
+	go func() { _ = web.Lines.Serve(listener) }()
+	var clients [4]net.Conn
+	var readers [4]*bufio.Reader
+	hears := func(number int, wanted string) {
+		test.Helper()
+		line, err := readers[number].ReadString('\n')
+		same(test, fmt.Sprint("what client ", number, " hears"), line, wanted)
+		if err != nil {
+			test.Fatal(err)
+		}
+	}
+	for number := range clients {
+		if clients[number], err = net.Dial("unix", path); err != nil {
+			test.Fatal(err)
+		}
+		defer clients[number].Close()
+		_ = clients[number].SetDeadline(time.Now().Add(time.Minute)) // Then it waits for the act.
+		readers[number] = bufio.NewReader(clients[number])
+		hears(number, book.Header)
+	}
+	first := make(chan string)
+	go func() { first <- ask(web, up, "POST /v1/acts").Body.String() }()
+	<-its.made
+	const reads, none = "{\"from\":0}\n", "{\"from\":0,\"to\":0}\n"
+	entry := func(at int) string {
+		return fmt.Sprintf(`{"act":{"up":{"process":0}},"at":%d,"by":1,"reply":"done"}`+"\n", at)
+	}
+	for number, text := range []string{up + "\n" + up + "\n", up + "\n", "x\n", reads} {
+		_, _ = io.WriteString(clients[number], text)
+	}
+	hears(3, none)
+	_, _ = io.WriteString(clients[0], up+"\n") // It waits for what it asked before.
+	_ = clients[2].Close()
+	_, _ = io.WriteString(clients[3], reads)
+	hears(3, none)
+	goOn()
+	same(test, "the first", <-first, entry(0))
+	hears(0, entry(1))
+	hears(0, entry(2))
+	hears(1, entry(3))
+	hears(0, entry(4))
+	stats := web.Book.Stats()
+	same(test, "entries and syncs", fmt.Sprint(stats.Entries, stats.Syncs), "5 3")
+	until(func() bool { return web.Lines.Count() == 3 })
 }
 
 func TestASocketIsItsOwnersAndTakesTheRoomOfADeadOne(test *testing.T) {
@@ -1156,7 +1268,7 @@ func TestAPanicOfAHandlerIsToldAndEndsNobodyElse(test *testing.T) {
 	same(test, "the answer", answer.Body, string(problemOf(500, "the server is at fault")))
 	first, where, _ := strings.Cut(strings.Join(said, ""), "\n")
 	same(test, "what is said", first, "GET /v1/status: panic: it breaks")
-	same(test, "where", strings.Contains(where, "door.(*guard).State("), true)
+	same(test, "where", strings.Contains(where, "door.(*guard).Ask("), true)
 	its.broken = nil
 	same(test, "an act", ask(web, up, "POST /v1/acts").Code, 200)
 	same(test, "then", ask(web, "", "GET /v1/status").Code, 200)
@@ -1294,5 +1406,5 @@ func TestAProgramThatHangsIsEndedWithWhatItStarted(test *testing.T) {
 	web := begin(test, 100)
 	web.Program = script(test, "sleep 1000 & sleep 1000")
 	web.Program.Patience = 50 * time.Millisecond
-	same(test, "the status", ask(web, "", "GET /v1/bears").Code, 503)
+	same(test, "the status", ask(web, "", "GET /picture.svg").Code, 503)
 }

@@ -58,10 +58,16 @@ type loop struct {
 	lastReady    int
 	// isQuick is: the client who is alone spoke within spinFor.
 	isQuick bool
-	party   *book.Party
-	// looked and served are lists that are used again.
-	looked, served []*client
-	waste          [firstInput]byte // for what is received a second time
+	// waiting is how many clients wait for a sync of others. The lock guards woken: their batches
+	// that were served or are to lead. The bell is rung where there are any.
+	waiting int
+	woken   []*batch
+	bell    bell
+	rung    bool // events told of the bell
+	// idle, heeded and looked are lists that are used again.
+	idle, heeded []*batch
+	looked       []*client
+	waste        [firstInput]byte // for what is received a second time
 }
 
 // client is one who is connected.
@@ -75,8 +81,9 @@ type client struct {
 	turn       *book.Turn
 	skips      bool // the rest of a line that is too long is passed over
 	ends       bool // no more input comes
-	isReady    bool // it is in the batch that is gathered
+	isReady    bool // it is in the batch that is gathered, or in one that waits
 	isFull     bool // it has to read before more is done for it
+	isMuted    bool // no events tell of it until it is answered
 	failed     error
 	canBeHeard bool
 	held       int // how many bytes of its input still stand at the socket, until it is answered
@@ -88,9 +95,17 @@ func newLoop(lines *Lines) (*loop, error) {
 	if err != nil {
 		return nil, err
 	}
-	return &loop{
-		lines: lines, poll: poll, clients: map[int]*client{}, party: book.NewParty(),
-	}, nil
+	its := &loop{lines: lines, poll: poll, clients: map[int]*client{}}
+	if its.bell, err = newBell(); err == nil {
+		err = its.listen(syscall.EPOLL_CTL_ADD, int(its.bell), syscall.EPOLLIN)
+	}
+	return its, err
+}
+
+// listen says, by a call of epoll, of which events of a descriptor it is told.
+func (its *loop) listen(call, descriptor int, events uint32) error {
+	event := syscall.EpollEvent{Events: events, Fd: int32(descriptor)}
+	return syscall.EpollCtl(its.poll, call, descriptor, &event)
 }
 
 // add takes in a client, and sends it the header.
@@ -104,8 +119,7 @@ func (its *loop) add(connection net.Conn) error {
 	client.output = append(client.output, book.Header...)
 	client.canBeHeard = canBeHeard(descriptor)
 	if err = client.send(); err == nil {
-		event := syscall.EpollEvent{Events: syscall.EPOLLIN, Fd: int32(descriptor)}
-		err = syscall.EpollCtl(its.poll, syscall.EPOLL_CTL_ADD, descriptor, &event)
+		err = its.listen(syscall.EPOLL_CTL_ADD, descriptor, syscall.EPOLLIN)
 	}
 	if err != nil {
 		_ = syscall.Close(descriptor)
@@ -155,6 +169,10 @@ func (its *loop) run() error {
 				return err
 			}
 		}
+		if its.rung {
+			its.rung = false
+			its.heed()
+		}
 		its.gather()
 		its.serve()
 	}
@@ -164,7 +182,7 @@ func (its *loop) run() error {
 // meanwhile are served behind that moment.
 func (its *loop) hear() bool {
 	client := its.alone()
-	if client == nil || client.isFull || !client.canBeHeard {
+	if client == nil || client.isReady || client.isFull || !client.canBeHeard {
 		return false
 	}
 	if !its.spin(client) && !its.sleep(client) {
@@ -247,20 +265,36 @@ func (its *loop) collect(milliseconds int) error {
 		its.look(client)
 	}
 	for at := 0; at < count; at++ {
-		its.lock.Lock()
-		client := its.clients[int(its.events[at].Fd)]
-		its.lock.Unlock()
-		switch {
-		case client == nil, client.isReady: // It was let go just now, or its turn comes first.
-		case client.isFull:
-			its.finish(client)
-		default:
-			client.fill(atOnce)
-			its.look(client)
-		}
+		its.hearOf(int(its.events[at].Fd))
 	}
 	return nil
 }
+
+// hearOf does what an event asks for, by its descriptor.
+func (its *loop) hearOf(descriptor int) {
+	if descriptor == int(its.bell) {
+		its.rung = true
+		return
+	}
+	its.lock.Lock()
+	client := its.clients[descriptor]
+	its.lock.Unlock()
+	switch {
+	case client == nil: // It was let go just now.
+	case client.isReady: // Its turn comes first, and events would tell of it until then.
+		if !client.isMuted && its.listen(syscall.EPOLL_CTL_MOD, descriptor, once) == nil {
+			client.isMuted = true
+		}
+	case client.isFull:
+		its.finish(client)
+	default:
+		client.fill(atOnce)
+		its.look(client)
+	}
+}
+
+// once are events of nothing but the end of a client, which are told once.
+const once = 1 << 30 // EPOLLONESHOT
 
 // look puts a client into the batch where it has something to ask, and ends it where it ended.
 func (its *loop) look(client *client) {
@@ -277,9 +311,9 @@ func (its *loop) look(client *client) {
 
 // gather waits for as many clients as the last batch served, at most for a part of the last sync's
 // time: clients that were answered together ask together again, and then one sync serves all of
-// them.
+// them. Where others wait for a sync that runs, all wait for it.
 func (its *loop) gather() {
-	if len(its.ready) == 0 || len(its.ready) >= its.lastReady {
+	if len(its.ready) == 0 || len(its.ready) >= its.lastReady || its.waiting > 0 {
 		return
 	}
 	patience := its.lines.Book.Patience()
@@ -310,35 +344,37 @@ func isReadable(descriptor int, patience time.Duration) bool {
 	return ready == 1
 }
 
-// serve answers the batch.
+// serve answers the batch: at once who only reads.
 func (its *loop) serve() {
 	if len(its.ready) == 0 {
 		return
 	}
-	ready := its.ready
-	its.ready, its.served, its.lastReady = its.served[:0], ready, len(ready)
-	its.party.Turns = its.party.Turns[:0]
-	for _, client := range ready {
+	its.lastReady = len(its.ready)
+	asking := its.newBatch()
+	for _, client := range its.ready {
 		if from, asked := readFrom(client.turn); asked {
 			client.number++
 			client.next, client.to = from, its.lines.Book.Stats().Entries
 			client.output, client.next = appendRange(client.output, from, client.to)
 			client.turn.Asks = client.turn.Asks[:0]
-		} else if len(client.turn.Asks) > 0 {
-			its.party.Turns = append(its.party.Turns, client.turn)
+		}
+		if len(client.turn.Asks) > 0 {
+			asking.add(client)
+		} else {
+			its.answer(client)
 		}
 	}
-	if len(its.party.Turns) > 0 {
-		its.lines.Book.SubmitAll(its.party)
-	}
-	for _, client := range ready {
-		client.isReady = false
-		its.answer(client)
+	its.ready = its.ready[:0]
+	if len(asking.clients) > 0 {
+		its.join(asking)
+	} else {
+		its.idle = append(its.idle, asking)
 	}
 }
 
 // answer makes the output of a client, and sends it.
 func (its *loop) answer(client *client) {
+	client.isReady = false
 	if len(client.turn.Asks) > 0 {
 		client.output, client.failed =
 			appendAnswers(client.output, client.turn.Answers, client.number)
@@ -357,13 +393,14 @@ func (its *loop) answer(client *client) {
 func (its *loop) finish(client *client) {
 	err := client.send()
 	its.takeOff(client)
-	if isFull := len(client.output) > 0; err == nil && isFull != client.isFull {
-		client.isFull = isFull
-		event := syscall.EpollEvent{Events: syscall.EPOLLIN, Fd: int32(client.descriptor)}
+	isFull := len(client.output) > 0
+	if err == nil && (isFull != client.isFull || client.isMuted) {
+		client.isFull, client.isMuted = isFull, false
+		events := uint32(syscall.EPOLLIN)
 		if isFull {
-			event.Events = syscall.EPOLLOUT
+			events = syscall.EPOLLOUT
 		}
-		err = syscall.EpollCtl(its.poll, syscall.EPOLL_CTL_MOD, client.descriptor, &event)
+		err = its.listen(syscall.EPOLL_CTL_MOD, client.descriptor, events)
 	}
 	if err != nil {
 		its.remove(client)

@@ -6,8 +6,6 @@ import (
 	"sort"
 	"strings"
 	"sync"
-
-	"faultyard-serve/internal/cluster"
 )
 
 // requests counts requests by the status of their answers.
@@ -42,13 +40,13 @@ func (its *requests) each(call func(status int, count uint64)) {
 // states are the words of the metric of processes, and whom each counts.
 var states = []struct {
 	word string
-	is   func(cluster.State) bool
+	is   func(process) bool
 }{
-	{"up", func(its cluster.State) bool { return its.Up }},
-	{"down", func(its cluster.State) bool { return !its.Up && !its.Gone }},
-	{"clogged", func(its cluster.State) bool { return its.Clogged }},
-	{"destroyed", func(its cluster.State) bool { return its.Destroyed }},
-	{"gone", func(its cluster.State) bool { return its.Gone }},
+	{"up", func(its process) bool { return its.Up }},
+	{"down", func(its process) bool { return !its.Up && !its.Gone }},
+	{"clogged", func(its process) bool { return its.Clogged }},
+	{"destroyed", func(its process) bool { return its.Destroyed }},
+	{"gone", func(its process) bool { return its.Gone }},
 }
 
 // metrics answers counts in the text format of Prometheus. It doesn't wait for the disk, of which
@@ -59,16 +57,20 @@ func (web *Web) metrics(writer http.ResponseWriter, _ *http.Request) {
 		fmt.Fprintf(&text, "# HELP faultyard_%s %s\n", name, help)
 		fmt.Fprintf(&text, "# TYPE faultyard_%s %s\n", name, kind)
 	}
-	if err := web.Book.Stop(); err != nil {
+	err := web.Book.Stop()
+	var its seen
+	if err == nil {
+		its, err = web.seen()
+	}
+	if err != nil {
 		failOf(writer, err)
 		return
 	}
-	its := web.seen()
 	stats := web.Book.Stats()
 	metric("entries", "gauge", "Entries of the audit.")
 	fmt.Fprintf(&text, "faultyard_entries %d\n", stats.Entries)
 	metric("journal_limit", "gauge", "Entries that the journal may have.")
-	fmt.Fprintf(&text, "faultyard_journal_limit %d\n", web.JournalLimit)
+	fmt.Fprintf(&text, "faultyard_journal_limit %d\n", its.limit)
 	metric("acts_total", "counter", "Acts that were asked for, by what came of them.")
 	for _, row := range []struct {
 		word  string
@@ -84,8 +86,8 @@ func (web *Web) metrics(writer http.ResponseWriter, _ *http.Request) {
 	metric("processes", "gauge", "Processes in each state; one may be in several.")
 	for _, state := range states {
 		count := 0
-		for _, process := range its {
-			if state.is(process.State) {
+		for _, process := range its.processes {
+			if state.is(process) {
 				count++
 			}
 		}

@@ -18,7 +18,7 @@ import (
 // programLimit is how long the program may take for one answer, if nothing else is said.
 const programLimit = 60 * time.Second
 
-// Program is the command faultyard, which is called for what the library doesn't offer.
+// Program is the command faultyard, which draws pictures.
 type Program struct {
 	// Path is where it is.
 	Path string
@@ -118,46 +118,26 @@ func (its *cache) get(
 	return text, err
 }
 
-// bears answers what may still be lost, as `faultyard bears --json --after` says it.
-func (web *Web) bears(writer http.ResponseWriter, request *http.Request) {
-	call := func(audit, _ io.Reader) ([]byte, error) {
-		words := []string{"bears", configFile, "--json", "--after", "/dev/stdin"}
-		return web.Program.run(audit, words)
-	}
-	web.drawn(writer, request, &web.losses, "application/json", call)
-}
-
 // picture answers the picture of `faultyard show --times`.
 func (web *Web) picture(writer http.ResponseWriter, request *http.Request) {
-	call := func(audit, times io.Reader) ([]byte, error) {
-		return web.Program.run(audit, []string{"show", configFile, "--times", timesFile}, times)
-	}
-	web.drawn(writer, request, &web.pictures, "image/svg+xml", call)
-}
-
-// drawn answers a text that the program makes of the audit and its times.
-func (web *Web) drawn(
-	writer http.ResponseWriter, request *http.Request, kept *cache, kind string,
-	call func(audit, times io.Reader) ([]byte, error),
-) {
 	if web.Program == nil {
 		fail(writer, http.StatusNotImplemented, "the server found no program faultyard")
 		return
 	}
 	entries := web.Book.Stats().Entries
 	waits(request)
-	text, err := kept.get(request.Context(), entries, func() ([]byte, error) {
+	text, err := web.pictures.get(request.Context(), entries, func() ([]byte, error) {
 		audit, times, err := web.Book.Drawn()
 		if err != nil {
 			return nil, err
 		}
-		return call(audit, times)
+		return web.Program.run(audit, []string{"show", configFile, "--times", timesFile}, times)
 	})
 	patience(request, answerLimit)
 	if err != nil {
 		fail(writer, http.StatusServiceUnavailable, err.Error())
 		return
 	}
-	writer.Header().Set("Content-Type", kind)
+	writer.Header().Set("Content-Type", "image/svg+xml")
 	_, _ = writer.Write(text)
 }

@@ -74,6 +74,18 @@ func (tokens *Tokens) Become(other *Tokens) {
 	tokens.digests, tokens.actors = other.digests, other.actors
 }
 
+// Beyond are the actors of tokens whom a cluster of so many hasn't, each once.
+func (tokens *Tokens) Beyond(actors int) (beyond []int) {
+	seen := map[int]bool{}
+	for _, actor := range tokens.actors {
+		if actor >= actors && !seen[actor] {
+			seen[actor] = true
+			beyond = append(beyond, actor)
+		}
+	}
+	return beyond
+}
+
 // add takes in a line of the file.
 func (tokens *Tokens) add(line string) error {
 	words := strings.Fields(line)

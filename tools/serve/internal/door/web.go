@@ -12,7 +12,6 @@ import (
 	"time"
 
 	"faultyard-serve/internal/book"
-	"faultyard-serve/internal/cluster"
 	"faultyard-serve/internal/panics"
 )
 
@@ -28,16 +27,13 @@ const (
 // Web answers requests of HTTP.
 type Web struct {
 	Book *book.Book
-	// Processes are those of the cluster file, as they were when nothing had happened.
-	Processes []cluster.Process
-	Guard     cluster.Guard
+	// Guard is that of the book.
+	Guard Guard
 	// Tokens says who may do what. Without it only this machine is answered.
 	Tokens *Tokens
-	// Program draws pictures and says what may be lost.
+	// Program draws pictures.
 	Program *Program
 	Version string
-	// JournalLimit is how many entries there may be.
-	JournalLimit int
 	// Lines is the other door, whose clients are counted too.
 	Lines *Lines
 	// Most is how many may be connected at once.
@@ -49,7 +45,6 @@ type Web struct {
 	crowd    crowd
 	requests requests
 	pictures cache
-	losses   cache
 }
 
 // route is a path that is answered.
@@ -69,6 +64,13 @@ var routes = []route{
 	{"GET", "/v1/events", (*Web).events, false},
 	{"GET", "/v1/targets", (*Web).targets, false},
 	{"GET", "/v1/bears", (*Web).bears, false},
+	{"POST", "/v1/judge", (*Web).judge, false},
+	{"GET", "/v1/killable", question("killable", "actor"), false},
+	{"GET", "/v1/state", question("state", "process"), false},
+	{"GET", "/v1/cluster", question("cluster"), false},
+	{"GET", "/v1/record", question("record", "record"), false},
+	{"GET", "/v1/needed", question("needed", "process"), false},
+	{"GET", "/v1/sight", question("sight"), false},
 	{"GET", "/picture.svg", (*Web).picture, false},
 	{"GET", "/metrics", (*Web).metrics, false},
 	{"GET", "/healthz", (*Web).healthz, true},
