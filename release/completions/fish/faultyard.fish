@@ -41,9 +41,13 @@ complete -c faultyard -n "__fish_seen_subcommand_from show" -l times -r -F \
     -d "The events of the run, a file: columns are laid by their times"
 complete -c faultyard -n "__fish_seen_subcommand_from guard" -l after -r -F \
     -d "The audit, a file, behind whose last entry the guard goes on"
+complete -c faultyard -n "__fish_seen_subcommand_from guard" -l questions \
+    -d 'Answers questions too: a line {"ask":..} with a line {"told":..}'
 complete -c faultyard -n "__fish_seen_subcommand_from bears" -l json -d "Writes one JSON object"
 complete -c faultyard -n "__fish_seen_subcommand_from bears" -l after -r -F \
     -d "The audit, a file, from whose last entry on losses are counted"
+complete -c faultyard -n "__fish_seen_subcommand_from bears" -l elections -x \
+    -d "The policy that the voters for a leader satisfy: tells what may forget"
 complete -c faultyard -n "__fish_seen_subcommand_from verdict" -l audit -r -F \
     -d "The audit of the run, a file"
 complete -c faultyard -n "__fish_seen_subcommand_from verdict" -l fresh \
