@@ -75,7 +75,7 @@ merged:
 	fi
 
 ## all that CI runs: the unit tests, every proof from nothing, all suites on the proved program and
-## the C library, and the mutants whose function changed, or what it names
+## the C library, and for five minutes the mutants that this machine hasn't seen refused
 test:
 	$(NEEDS_RT)
 	tests/suites test
@@ -91,8 +91,8 @@ format:
 	tests/style/run format
 
 ## makes what pages say of the source: the crates of ARCHITECTURE and their diagram, acts, replies,
-## limits, faults and statuses of FORMATS, the calls of LIBRARY, the lines of hooks, what to do
-## after a kill; and CONTRACTS and DEFINITIONS, which only the site and the packages have
+## questions, limits, faults and statuses of FORMATS, the calls of LIBRARY, the lines of hooks, what
+## to do after a kill; and CONTRACTS and DEFINITIONS, which only the site and the packages have
 pages:
 	tools/pages/make
 	release/pages tables
@@ -112,15 +112,20 @@ try-histories: build
 	tests/linear/run bin/faultyard --histories 1000000
 	tests/verdict/run bin/faultyard --histories 10000
 
+## holds the answers to 100,000 random mixes of acts and questions, by pipe and by C, against a
+## model of the rules
+try-questions: build lib
+	tests/questions/run bin/faultyard bin/libfaultyard.so --mixes 100000
+
 ## makes each allocation fail once, one run each, in short tests of each command, act and check
 refused-memory:
 	tests/refused-memory/run faultyard/short:: fy_tests/a_buffer_keeps \
 		fy_cluster_tests/short::,actors::played::,actors::stored::
 
-## tries every mutant again, and records those that are refused; run it before a release
+## tries every mutant again; run it before a release
 mutants:
 	$(NEEDS_RT)
-	tests/mutants/run --all --record
+	tests/mutants/run --all
 
 ## runs `faultyard-nemesis` on redis, etcd, PostgreSQL, ZooKeeper and RabbitMQ, a minute guarded and
 ## a minute unguarded with two seeds each, and prints a table; then a minute each with partitions,
@@ -166,11 +171,11 @@ nemesis-aborts:
 nemesis-deaths:
 	HOSTS_DEATHS=100 HOSTS_AT_ONCE=4 tests/hosts/run bin/faultyard deaths
 
-## runs `faultyard-nemesis` on hosts in trouble, as units, in pods and in containers; then redis,
-## etcd and PostgreSQL by ssh, guarded and unguarded with two seeds each, and prints a table; takes
-## a quarter of an hour, and has to be root
+## runs `faultyard-nemesis` on hosts in trouble, as units, in pods, in containers, with other
+## stores; then redis, etcd and PostgreSQL by ssh, guarded and unguarded with two seeds each, and
+## prints a table; takes twenty minutes, and has to be root
 try-hosts: build
-	tests/hosts/run bin/faultyard troubles by_units by_pods by_containers
+	tests/hosts/run bin/faultyard troubles by_units by_pods by_containers by_stores
 	tests/stores/run --ssh bin/faultyard
 
 ## kills `faultyard-serve` a hundred times while a nemesis and two testers ask it over an etcd of
@@ -256,15 +261,12 @@ bench: build lib
 	-bench/histories.py --growth bin/faultyard
 	-bench/growth --all --states 1000 bin/faultyard
 	-if [ -n "$(BESIDE)" ]; then bench/growth --all --beside $(BESIDE) bin/faultyard; fi
-	bench/verdicts.sh
-	bench/acts.sh
-	bench/turns.sh
-	bench/orders.sh
-	bench/needs.sh
-	bench/bodies.sh
-	bench/configs.sh
-	if command -v $(CC) > /dev/null; then bench/kills.sh $(BESIDE); fi
-	if command -v $(CC) > /dev/null; then bench/copies.sh; fi
+	for part in verdicts acts turns orders needs bodies configs; do \
+		bench/parts.py $$part || exit 1; \
+	done
+	if command -v $(CC) > /dev/null; then bench/calls.py kills $(BESIDE); fi
+	if command -v $(CC) > /dev/null; then bench/calls.py copies; fi
+	if command -v $(CC) > /dev/null; then bench/asks.py bin/faultyard bin/libfaultyard.a; fi
 
 ## removes what was built, and what earlier checks kept
 clean:

@@ -53,6 +53,7 @@ SHAPES = {
     "fy_up": (number, [at, number, number, numbers]),
     "fy_heal": (number, [at, number, number, numbers]),
     "fy_act": (number, [at, c.c_char_p, size, c.c_char_p, size, sizes]),
+    "fy_ask": (number, [at, c.c_char_p, size, c.c_char_p, size, sizes]),
     "fy_process": (number, [at, c.c_char_p, size]),
     "fy_process_count": (number, [at]),
     "fy_targets": (number, [at, number, c.c_char_p, size, words, size]),

@@ -58,6 +58,7 @@ class Containers(Case):
         """And nothing else: not its data, nor a container that runs, or isn't of the tool."""
         died = self.killed_while_one_is_paused()
         volumes, dead = asked("volume", "ls", "--quiet"), asked("ps", "--all", "--quiet")
+        self.addCleanup(asked, "volume", "rm", *volumes)
         self.assertEqual(len(dead), 5)
         image = os.environ["IMAGE"]
         more = ["run", "--detach", "--interactive", "--network", "none", "--entrypoint", "sh"]

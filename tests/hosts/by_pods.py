@@ -32,7 +32,7 @@ class Pods(Case):
         """What kubectl ran ends with it, and is started again; with the tool all ends."""
         running = self.start("--seconds", 3600, "--replay", self.given((3000, "e1", "Reboot")))
         wait_until("the beginning", lambda: self.events("ready"))
-        ran = rf"kubectl exec -i h1 .*{self.out}/1 \d+ .*etcd "
+        ran = rf"(?s)kubectl exec -i h1 .*{self.out}/1 \d+ .*etcd "
         wait_until("what kubectl runs", lambda: those(ran))
         killed(those(ran))
         wait_until("the end of it", lambda: self.events("ended"))

@@ -393,6 +393,8 @@ class Refusals(Case):
         self.refused(own, "--on", "units:here", "--disks", "own")
         heeds = "--on units:here: these hooks have no `kill`, so they run nothing there"
         self.refused(heeds, "--on", "units:here", names=self.NEEDED)
+        here = "--on ssh:h0,h1,h2: by `here` these hooks read files of what runs, so it runs here"
+        self.refused(here, "--on", "ssh:h0,h1,h2", names=f"{self.ALL} here")
 
     def test_places(self):
         self.refused("--at has 2 places for 3 processes", "--at", "h0,h1")

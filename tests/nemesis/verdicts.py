@@ -308,6 +308,20 @@ class Unwritten(unittest.TestCase):
         self.assertEqual(unwritten(set(), writes, right + faulty), faulty[:3])
         self.assertEqual(unwritten({KEY}, writes, right + faulty), faulty[1:3])
 
+    def test_writes_of_a_key_are_gone_through_once(self):
+        """Some key may be written and read all the time."""
+
+        class Counted(list):
+            times = 0
+
+            def __iter__(self):
+                self.times += 1
+                return super().__iter__()
+
+        its = Counted([write()])
+        self.assertEqual(unwritten(set(), {KEY: its}, [read(VALUE, n) for n in range(9)]), [])
+        self.assertEqual(its.times, 1)
+
 
 class Cases(unittest.TestCase):
     """Five processes, and a record that was acknowledged at second 5, before entry 6."""

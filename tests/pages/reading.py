@@ -14,6 +14,7 @@ import layers
 import limits
 import made
 import names
+import questions
 import source
 
 REAL = source.ROOT
@@ -241,6 +242,22 @@ class HookLines(unittest.TestCase):
     def test_a_decorator_is_a_line_of_its_function(self) -> None:
         decorated = HOOKS.replace("def start", "@fy.late\ndef start")
         self.assertEqual(hook_lines.counted(decorated), (7, 13))
+
+
+class Questions(unittest.TestCase):
+    def test_each_question_has_an_example_with_its_members(self) -> None:
+        _, lines = questions.examples()
+        for name in questions.of_questions():
+            rest = [(asked, text) for asked, text in lines if name not in asked]
+            self.assertRaises(made.PagesError, questions.check, rest)
+        other = [*lines, ({"killable": {"process": 1}}, "")]
+        self.assertRaises(made.PagesError, questions.check, other)
+
+    def test_each_member_that_is_written_has_an_example(self) -> None:
+        _, lines = questions.examples()
+        for name in ("clogged", "keeper", "deliverable", "entries", "data_hall", "scope"):
+            rest = [(asked, text.replace(f'"{name}":', '"x":')) for asked, text in lines]
+            self.assertRaises(made.PagesError, questions.check, rest)
 
 
 class Marks(unittest.TestCase):

@@ -275,6 +275,24 @@ class Doors(Case):
         self.assertEqual(status(other), 200)
         self.assertEqual(server.end(), 0)
 
+    def test_a_token_of_an_actor_that_isnt_there_is_told(self):
+        path = common.written(self.folder, "tokens", "one-one-one-one-one 3\n")
+        path.chmod(0o600)
+        server = self.server("--tokens", str(path)).start()
+        self.assertNotIn("a token is of", server.said.read_text())
+        path.write_text("one-one-one-one-one 1\nnobody-nobody-nobody 4\nnobody-nobody-none 4\n")
+        server.process.send_signal(signal.SIGHUP)
+        while "are read again" not in server.said.read_text():
+            time.sleep(0.01)
+        self.assertEqual(server.end(), 0)
+        server.start()
+        why = f"{path}: a token is of actor 4; {server.config} has 4 actors, from 0, "
+        told = server.said.read_text().count(f"{why}so its acts are refused\n")
+        self.assertEqual(told, 2)
+        token = "Bearer nobody-nobody-nobody"
+        status, entry = server.ask("POST", "/v1/acts", kill(0, by=4), Authorization=token)
+        self.assertEqual((status, json.loads(entry)["reply"]), (200, {"no": ["Stranger"]}))
+
     def test_the_idle_go_for_those_who_ask(self):
         server = self.server().start()
         idle = []

@@ -19,7 +19,11 @@ class Guards(Case):
                 verdict = guard.kill(Key.PROCESS, "p0", Kind.REBOOT_AND_DELETE, by=1)
                 self.assertEqual(verdict.struck, Kind.REBOOT_AND_DELETE)
                 self.assertTrue(guard.is_destroyed(0))
+                self.assertEqual(guard.targets(Key.ZONE, "z0"), {0, 1})
+                self.assertEqual((guard.bears().emptied, guard.state(0).up), (0, False))
                 server.talk().ask(up(0))
+                # The guard has no entry of it yet, and is told of it all the same.
+                self.assertEqual((guard.state(0).up, guard.journal_len()), (True, before + 1))
                 with self.assertRaises(faultyard.ActRefused):
                     guard.up(0, by=0)
                 (other,) = guard.others()
@@ -40,7 +44,13 @@ class Guards(Case):
                     if number % 6 == 3:
                         server.kill()
                         starts.start()
-                    guard.kill(Key.PROCESS, f"p{number % 6}", Kind.REBOOT, by=1)
+                    if number % 12 == 3:
+                        guard.kill(Key.PROCESS, f"p{number % 6}", Kind.REBOOT, by=1)
+                        self.assertFalse(guard.state(number % 6).up)
+                    else:
+                        judged = guard.judge(Key.PROCESS, f"p{number % 6}", Kind.REBOOT, by=1)
+                        verdict = guard.kill(Key.PROCESS, f"p{number % 6}", Kind.REBOOT, by=1)
+                        self.assertEqual(verdict, judged)
                     if number % 6 == 3:
                         starts.join()
                 self.assertEqual(guard.journal_len() - before, 30)
@@ -78,6 +88,10 @@ class Guards(Case):
             guard.kill(Key.ZONE, "z0", Kind.REBOOT, by=1)
             with self.assertRaises(faultyard.JournalFull):
                 guard.up(0, by=0)
+            self.assertEqual(guard.judge(Key.ZONE, "z0", Kind.REBOOT, by=1).struck, Kind.REBOOT)
+            self.assertEqual(guard.sight().sleeping, 0)
+            with self.assertRaises(faultyard.ProtocolError):
+                guard.judge(Key.ZONE, "z0", Kind.REBOOT, by=2)
         with self.assertRaisesRegex(faultyard.ProtocolError, "no token that is known"):
             Guard(server.config, server=url, tokens={0: "none-none-none-none"})
         server.kill()

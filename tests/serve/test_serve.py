@@ -30,7 +30,7 @@ class Words(Case):
 
     def test_wrong_words_are_refused_before_anything_is_touched(self):
         mode = "--socket-mode takes three octal digits, as 0660"
-        loopback = "without --tokens, --listen takes an address of the loopback"
+        loopback = "without --tokens, --listen takes an address of the loopback, as 127.0.0.1:7077"
         for words, why in (
             ([], "one cluster file is needed"),
             (["a", "b", "--audit", "x"], "one cluster file is needed"),
@@ -41,6 +41,7 @@ class Words(Case):
             (["a", "--audit", "x", "--listen", "7077"], "--listen takes HOST:PORT"),
             (["a", "--audit", "x", "--listen", "0.0.0.0:0"], loopback),
             (["a", "--audit", "x", "--listen", ":0"], loopback),
+            (["a", "--audit", "x", "--listen", "localhost:0"], loopback),
             (["a", "--audit", "x", "--socket-mode", "0888"], mode),
             (["a", "--audit", "x", "--socket-mode", "1777"], mode),
             (["a", "--audit", "x", "--nothing"], "flag provided but not defined: --nothing"),

@@ -8,8 +8,9 @@ import subprocess
 import sys
 import threading
 import time
+from functools import cache
 from pathlib import Path
-from typing import Mapping, Optional
+from typing import Mapping, Optional, Protocol, Sequence
 
 from faultyard import ClusterFile, Guard, Key, Kind, Role, check
 
@@ -56,9 +57,15 @@ class Tester(threading.Thread):
         return self.kill(process, dice.choice(KINDS), "RebootProcess")
 
     def kill(self, process: int, kind: str, floor: str) -> dict[str, dict[str, object]]:
-        name = ClusterFile.read(self.config).places[process][Key.PROCESS]
+        name = places_of(self.config)[process][Key.PROCESS]
         order = {"key": "processid", "value": name, "kind": kind, "floor": floor, "tear": 0}
         return {"kill": order}
+
+
+@cache
+def places_of(config: Path) -> tuple[Mapping[Key, str], ...]:
+    """The places of the processes of a cluster file."""
+    return ClusterFile.read(config).places
 
 
 def configured(source: Path, folder: Path) -> tuple[Path, int, int]:
@@ -84,7 +91,18 @@ def start(words: list[str], said: Path) -> subprocess.Popen[bytes]:
     return server
 
 
-def is_right(config: Path, file: Path, testers: list[Tester], status: int) -> bool:
+class Answered(Protocol):
+    """A tester that has ended."""
+
+    by: int
+    entries: list[dict[str, object]]
+
+    @property
+    def fault(self) -> object:
+        ...
+
+
+def is_right(config: Path, file: Path, testers: Sequence[Answered], status: int) -> bool:
     """Prints what the audit comes to, and says whether each answer stands in it once, it is legal,
     and the nemesis found nothing lost."""
     audit = file.read_text()

@@ -121,6 +121,13 @@ static void worked_kill()
           "{\"act\":{\"tick\":{\"ticks\":5}},\"at\":2,\"by\":0,\"reply\":{\"time\":5}}\n");
     HOLDS(guard.act("{\"by\":0,\"act\":{\"up\":{\"process\":5}}}") ==
           "{\"act\":{\"up\":{\"process\":5}},\"at\":3,\"by\":0,\"reply\":{\"no\":[\"IsUp\"]}}\n");
+    HOLDS(guard.ask("{\"ask\":{\"targets\":{\"key\":\"zoneid\",\"value\":\"z1\"}}}") ==
+          "{\"told\":{\"targets\":[2,3]}}\n");
+    const std::string longer = guard.ask("{\"ask\":{\"state\":{}}}");
+    HOLDS(longer.size() > 512 && longer.substr(longer.size() - 6) == "}]}}}\n");
+    THROWS(LineSyntax, (void)guard.ask("{\"by\":0,\"act\":{\"tick\":{\"ticks\":5}}}"));
+    THROWS(LineTooLong, (void)guard.ask(std::string(65537, ' ')));
+    EQUAL(guard.journal_len(), 4);
 }
 
 /* Each rule, with what it names. The floor is RebootProcess where it is left out, and the tear 0.
@@ -624,6 +631,7 @@ static void want_of_memory()
     THROWS(NoMemory, first.up(0, 0));
     THROWS(NoMemory, first.heal(0, 0));
     THROWS(NoMemory, guard.act("{\"by\":0,\"act\":{\"tick\":{\"ticks\":5}}}"));
+    THROWS(NoMemory, (void)guard.ask("{\"ask\":{\"sight\":{}}}"));
     THROWS(NoMemory, guard.reset());
     THROWS(NoMemory, guard.bears());
     THROWS(NoMemory, (void)guard.try_copy());

@@ -562,6 +562,54 @@ func TestWhatThereIsToDoUntilARecordIsAcknowledged(t *testing.T) {
 	next(t, guard, faultyard.Sight{
 		Now: 5, Deliverable: faultyard.Nothing, Unsynced: faultyard.Nobody, Sleeping: 0,
 	})
+	record, err := guard.Record(0)
+	keeper := uint32(2)
+	equal(t, err, nil)
+	equal(t, record, &faultyard.Record{Acked: true, Keeper: &keeper, Synced: []uint32{2}})
+	record, err = guard.Record(1)
+	equal(t, err, nil)
+	equal(t, record, (*faultyard.Record)(nil))
+}
+
+func TestWhatTheClusterFileSaysAndWhatBarsActs(t *testing.T) {
+	guard := opened(t, six(t))
+	cluster, err := guard.Cluster()
+	equal(t, err, nil)
+	equal(t, cluster.Entries, 0)
+	equal(t, cluster.JournalLimit, 1000)
+	equal(t, cluster.Policies, []string{"Across(2,zoneid,One())"})
+	equal(t, len(cluster.Processes), 6)
+	place := faultyard.Place{Process: "p3", Machine: "m3", Zone: "z1", DataCenter: "d0"}
+	equal(t, cluster.Processes[3], place)
+	equal(t, cluster.Actors[2].Role, "fault")
+	equal(t, cluster.Actors[2].Grants[0].Kinds, []string{"Reboot", "KillInstantly"})
+	equal(t, string(cluster.Actors[2].Grants[0].Scope), `"all"`)
+	act(t, guard, 4, `{"protect":{"kinds":["Clog"],"process":1}}`)
+	act(t, guard, 1, `{"clog":{"key":"processid","ticks":9,"value":"p2"}}`)
+	states, err := guard.States()
+	until := uint64(9)
+	equal(t, err, nil)
+	equal(t, len(states), 6)
+	equal(t, states[0], faultyard.ProcessState{Up: true, Protected: []string{}})
+	equal(t, states[1], faultyard.ProcessState{Up: true, Protected: []string{"Clog"}})
+	wanted := faultyard.ProcessState{Up: true, Clogged: &until, Protected: []string{}}
+	equal(t, states[2], wanted)
+	length, err := guard.JournalLen()
+	equal(t, err, nil)
+	equal(t, length, 2)
+}
+
+func TestALineThatIsNoQuestionIsToldNothing(t *testing.T) {
+	guard := opened(t, six(t))
+	for line, wanted := range map[string]error{
+		"":                                    faultyard.ErrLineSyntax,
+		`{"by":0,"act":{"tick":{"ticks":1}}}`: faultyard.ErrLineSyntax,
+		strings.Repeat(" ", 65_537):           faultyard.ErrLineTooLong,
+	} {
+		told, err := guard.Ask([]byte(line))
+		fails(t, err, wanted)
+		equal(t, told, []byte(nil))
+	}
 }
 
 func TestAnErrorEntersNothing(t *testing.T) {
@@ -731,6 +779,10 @@ func assertClosed(t *testing.T, guard *faultyard.Guard) {
 	_, err = guard.Act(nil)
 	fails(t, err, faultyard.ErrClosed)
 	_, err = guard.AppendAct(nil, nil)
+	fails(t, err, faultyard.ErrClosed)
+	_, err = guard.Ask(nil)
+	fails(t, err, faultyard.ErrClosed)
+	_, err = guard.Cluster()
 	fails(t, err, faultyard.ErrClosed)
 	_, err = guard.UpSet()
 	fails(t, err, faultyard.ErrClosed)

@@ -27,6 +27,7 @@ import java.util.stream.IntStream;
  * GuardTest states PROGRAM CONFIG          makes them, and writes what each leaves of the processes
  * GuardTest killable PROGRAM CONFIG        makes them, and writes who may be killed after each 20th
  * GuardTest places PROGRAM CONFIG..        writes the processes of each key and value that is read
+ * GuardTest asked PROGRAM                  makes acts and asks questions, and writes each answer
  * GuardTest threads PROGRAM CONFIG         eight threads share a guard; writes the audit
  * GuardTest cases PROGRAM CONFIG FOLDER    each error once; writes how many cases passed
  * </pre>
@@ -46,7 +47,7 @@ final class GuardTest {
     }
 
     public static void main(String[] words) throws Exception {
-        Path config = Path.of(words[2]);
+        Path config = Path.of(words[words.length > 2 ? 2 : 1]);
         switch (words[0]) {
             case "play":
                 play(words[1], config, (guard, at) -> { });
@@ -59,6 +60,9 @@ final class GuardTest {
                 break;
             case "places":
                 places(words[1], List.of(words).subList(2, words.length));
+                break;
+            case "asked":
+                asked(words[1]);
                 break;
             case "threads":
                 threads(words[1], config);
@@ -128,6 +132,33 @@ final class GuardTest {
                 }
             }
         }
+    }
+
+    /** A line is the path of a cluster file, a question, or an act as of {@link #play}. */
+    private static void asked(String program) throws IOException {
+        BufferedReader lines =
+            new BufferedReader(new InputStreamReader(System.in, StandardCharsets.US_ASCII));
+        Guard guard = null;
+        for (String line = lines.readLine(); line != null; line = lines.readLine()) {
+            if (line.startsWith("/")) {
+                if (guard != null) {
+                    guard.close();
+                }
+                guard = new Guard(Path.of(line), program);
+            } else if (line.startsWith("{")) {
+                System.out.print(guard.ask(line));
+            } else {
+                String[] words = line.split("\t", -1);
+                try {
+                    make(guard, Integer.parseInt(words[0]), words);
+                } catch (Guard.ActRefused refused) {
+                    // The audit has it.
+                }
+                String audit = guard.audit();
+                System.out.print(audit.substring(audit.lastIndexOf('\n', audit.length() - 2) + 1));
+            }
+        }
+        guard.close();
     }
 
     private static void make(Guard guard, int by, String[] words) {
@@ -450,11 +481,31 @@ final class GuardTest {
             check(guard.sync(0, 2).first == 3, "p2 syncs");
             check(guard.deliver(0, 2) == Guard.Delivery.MARKED, "one zone isn't enough");
             check(guard.deliver(0, 3) == Guard.Delivery.ACKNOWLEDGED, "two zones are");
+            check(guard.isAcked(0) && !guard.isAcked(1), "record 0 is acknowledged");
+            check(guard.keeper(0).orElseThrow() == 0 && guard.keeper(1).isEmpty(), "p0 keeps it");
+            Guard.Kept kept = guard.record(0).orElseThrow();
+            check(kept.team == 0 && kept.synced.equals(Set.of(0, 2)), "and p2");
             check(guard.copy(0, 0, 0, 4) == 4, "message 4 goes to p4");
+            Guard.Sight sight = guard.sight();
+            check(sight.now == 0 && sight.deliverable.orElseThrow() == 4, "and is there");
+            check(sight.sleeping.isEmpty() && sight.unsynced.isEmpty(), "all run, and are synced");
+            check(guard.needed(0).isEmpty() && guard.needed(6).isEmpty(), "nobody lacks a record");
             guard.lose(0, 4);
             guard.protect(4, 1, EnumSet.of(Guard.Kind.REBOOT));
             Guard.Verdict barred = guard.kill(1, Guard.Key.PROCESS, "p1", Guard.Kind.REBOOT);
             check(barred.rule().orElseThrow() == Guard.Rule.PROTECTED, "p1 is protected");
+            guard.kill(1, Guard.Key.PROCESS, "p0", Guard.Kind.REBOOT_AND_DELETE);
+            check(guard.needed(0).orElseThrow() == 0 && guard.keeper(0).orElseThrow() == 2,
+                "p0 lacks it now, and p2 keeps it");
+            check(guard.sight().sleeping.orElseThrow() == 0, "p0 is down");
+            guard.clog(1, Guard.Key.ZONE, "z1", 9);
+            Guard.State state = guard.state(1).orElseThrow();
+            check(state.barred.equals(Set.of(Guard.Kind.REBOOT)), "what is barred on p1");
+            check(guard.state(2).orElseThrow().cloggedUntil.orElseThrow() == 9, "p2 until 9");
+            Guard.Ruling ruling = guard.judgeClog(2, Guard.Key.ZONE, "z1", 9);
+            check(ruling.rule().orElseThrow() == Guard.Rule.NO_GRANT, "actor 2 may not clog");
+            check(guard.judgeClog(1, Guard.Key.ZONE, "z1", 9).rule().isEmpty(), "actor 1 may");
+            thrown(Guard.ActRefused.class, () -> guard.judgeClog(9, Guard.Key.ZONE, "z1", 9));
         }
     }
 
@@ -493,10 +544,9 @@ final class GuardTest {
                 "z1 goes now");
             Files.writeString(own, text.replace("Across(2,", "Across(1,"));
             Guard.GuardEnded another = thrown(Guard.GuardEnded.class, guard::tryCopy);
-            check(another.getMessage().equals("entry 0 is another in the copy"),
-                another.getMessage());
+            check(another.fault().equals("bad entry 0"), another.getMessage());
             Files.writeString(own, "=");
-            check(guard.bears().emptied == 0, "it is asked about the file as it was opened");
+            check(guard.bears().emptied == 0, "the guard is of the file as it was opened");
             check(guard.targets(Guard.Key.ZONE, "z1").isEmpty() && guard.processCount() == 6,
                 "and knows its places");
             thrown(Guard.ConfigRefused.class, guard::reset);
@@ -599,10 +649,9 @@ final class GuardTest {
             Files.readString(config).replaceFirst("journal_limit = \\d+", "journal_limit = 1");
         Path one = Files.writeString(folder.resolve("one.toml"), text);
         try (Guard guard = new Guard(one, program)) {
-            check(guard.killable(2).size() == 6, "there is room");
             guard.tick(0, 1);
-            thrown(Guard.JournalFull.class, () -> guard.killable(2));
-            check(guard.upSet().size() == 6, "the guard goes on");
+            check(guard.killable(2).size() == 6, "a full journal bars no question");
+            thrown(Guard.JournalFull.class, () -> guard.tick(0, 1));
         }
     }
 
@@ -678,6 +727,11 @@ final class GuardTest {
         try (Guard guard = new Guard(config, loud)) {
             check(guard.tick(0, 1) == 1, "much on standard error blocks nothing");
         }
+        Guard odds = open();
+        thrown(IllegalArgumentException.class, () -> odds.ask("{}\n{}"));
+        String tick = "{\"by\":0,\"act\":{\"tick\":{\"ticks\":1}}}";
+        thrown(Guard.GuardEnded.class, () -> odds.ask(tick));
+        thrown(Guard.GuardEnded.class, odds::sight);
         check(children() == 0, "nothing runs");
     }
 

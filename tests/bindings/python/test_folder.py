@@ -1,12 +1,9 @@
 """The audit that a guard keeps in a folder: it is appended to, and never cut."""
 
-import json
 import os
 import signal
-import socketserver
 import subprocess
 import sys
-import threading
 import unittest
 from pathlib import Path
 from unittest import mock
@@ -137,7 +134,7 @@ class FolderTest(common.Folder, unittest.TestCase):
     def test_a_guard_that_hung_begins_again(self):
         hangs = self.script(f'[ "$3" = --after ] || sleep 1000\nexec {common.PROGRAM} "$@"\n')
         with Guard(common.SIX, folder=self.run) as guard:
-            guard._transport._words[0], guard._transport._timeout = str(hangs), 0.2
+            guard._transport._program, guard._transport._timeout = str(hangs), 0.2
             os.kill(guard._transport._process.pid, signal.SIGSTOP)
             with self.assertRaises(faultyard.GuardEnded) as caught:
                 guard.tick(1, by=0)
@@ -248,38 +245,3 @@ class FolderTest(common.Folder, unittest.TestCase):
         words = f"{str(common.SIX)!r}, folder={str(self.run)!r}, after={str(self.audit)!r}"
         self.assertEqual(played(words, limits)(acts), 0)
         self.assertEqual(self.audit.read_text(), text + TICKS[1][:9])
-
-
-class Answers(socketserver.StreamRequestHandler):
-    """Talks as a server whose journal is so many ticks; an act is answered with the next."""
-
-    def handle(self):
-        self.wfile.write(common.HEADER.encode())
-        for line in self.rfile:
-            self.wfile.write(self.told(json.loads(line)).encode())
-
-    def told(self, asked):
-        if "from" in asked:
-            first, count = asked["from"], self.server.count
-            return "".join([json.dumps({"from": first, "to": count}), "\n", *TICKS[first:count]])
-        self.server.count += 1
-        return TICKS[self.server.count - 1]
-
-
-class ServedFolderTest(common.Folder, unittest.TestCase):
-    def test_the_audit_of_a_server_is_gone_on_with(self):
-        path, audit = f"{self.folder}/socket", Path(self.folder, "audit")
-        server = self.enterContext(socketserver.UnixStreamServer(path, Answers))
-        server.count = 1
-        threading.Thread(target=server.serve_forever).start()
-        self.addCleanup(server.shutdown)
-        audit.write_text(common.HEADER + TICKS[0])
-        for count in (2, 3):
-            with Guard(common.SIX, server=path, folder=self.folder) as guard:
-                guard.tick(1, by=0)
-            self.assertEqual(audit.read_text(), common.HEADER + "".join(TICKS[:count]))
-        other = common.HEADER + TICKS[0] + "another\n"
-        audit.write_text(other)
-        with self.assertRaises(faultyard.AuditExists):
-            Guard(common.SIX, server=path, folder=self.folder)
-        self.assertEqual(audit.read_text(), other)

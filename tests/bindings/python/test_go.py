@@ -130,7 +130,7 @@ class Go(common.Folder, unittest.TestCase):
         poor_library(library)
         told = run(program, env={**ENVIRONMENT, "LD_LIBRARY_PATH": self.folder})
         calls = ("Open", "Open, to say where the fault is")
-        calls += ("Kill", "Reset", "TryCopy", "Up", "Heal", "Form", "Take", "Act", "Entry")
+        calls += ("Kill", "Reset", "TryCopy", "Up", "Heal", "Form", "Take", "Act", "Ask", "Entry")
         calls += ("Audit", "Bears")
         calls += ("Words", "SwizzlePlan", "AttritionPlan", "BeginCheck", "Line")
         wanted = dict.fromkeys(calls, "faultyard: there was no memory")

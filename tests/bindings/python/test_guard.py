@@ -469,6 +469,103 @@ class GuardTests(common.Folder):
         with self.assertRaises(faultyard.GuardClosed):
             guard.killable(by=1)
 
+    def test_what_there_is_to_do_until_a_record_is_acknowledged(self):
+        with Guard(common.SIX, transport=self.transport) as guard:
+            self.assertEqual(guard.sight(), faultyard.Sight(0, None, None, None))
+            guard.form([0, 2], 0, by=0)
+            guard.begin(0, b"hi", by=0)
+            # Messages 0 and 1 store the record at p0 and p2; 2 and 3 answer that it is synced.
+            self.assertEqual(guard.sight(), faultyard.Sight(0, 0, None, None))
+            guard.deliver(0, by=0)
+            guard.deliver(1, by=0)
+            self.assertEqual(guard.sight(), faultyard.Sight(0, None, 0, None))
+            guard.sync(0, by=0)
+            self.assertEqual(guard.sight(), faultyard.Sight(0, 2, 2, None))
+            guard.sync(2, by=0)
+            guard.deliver(2, by=0)
+            self.assertEqual((guard.is_acked(0), guard.keeper(0)), (False, None))
+            guard.deliver(3, by=0)
+            self.assertEqual((guard.is_acked(0), guard.keeper(0)), (True, 0))
+            self.assertEqual((guard.is_acked(1), guard.keeper(2**32 - 1)), (False, None))
+            guard.tick(5, by=0)
+            guard.kill(Key.PROCESS, "p0", Kind.REBOOT_AND_DELETE, by=1)
+            self.assertEqual((guard.is_acked(0), guard.keeper(0)), (True, 2))
+            self.assertEqual(guard.sight(), faultyard.Sight(5, None, None, 0))
+            for ask in (guard.is_acked, guard.keeper):
+                with self.assertRaises(faultyard.InvalidAct):
+                    ask(-1)
+        asked = [guard.sight, lambda: guard.is_acked(0), lambda: guard.keeper(0), guard.up_set]
+        asked += [lambda: guard.state(0), lambda: guard.needed(0), guard.reset, guard.try_copy]
+        for ask in asked:
+            with self.assertRaises(faultyard.GuardClosed):
+                ask()
+
+    def test_what_it_bears_is_what_the_program_says(self):
+        crossed = common.ROOT / "tests/cli/bears/configs/crossed.toml"
+        with Guard(crossed, transport=self.transport) as guard:
+            self.assertEqual(guard.bears(), faultyard.Borne(2, 0, False, True))
+            self.assertEqual(guard.bears(), faultyard.bears(crossed, guard.audit()))
+        with Guard(common.SIX, transport=self.transport) as guard:
+            for at, (by, act) in enumerate(common.random_acts(60, 200)):
+                guard.act(by, act)
+                if at % 20 == 0:
+                    self.assertEqual(guard.bears(), faultyard.bears(common.SIX, guard.audit()))
+            self.assertEqual(guard.journal_len(), 200)
+        with self.assertRaises(faultyard.GuardClosed):
+            guard.bears()
+
+    def test_states_and_what_is_needed_and_a_reset(self):
+        up = faultyard.State(up=True, clogged=False, destroyed=False, gone=False)
+        with Guard(common.SIX, transport=self.transport) as guard:
+            audits = []
+            for _ in range(2):
+                self.assertEqual([guard.state(it) for it in range(7)], [up] * 6 + [None])
+                self.assertEqual(guard.up_set(), frozenset(range(6)))
+                guard.form([0, 2], 0, by=0)
+                guard.begin(0, b"hi", by=0)
+                guard.deliver(0, by=0)
+                guard.deliver(1, by=0)
+                guard.sync(0, by=0)
+                guard.sync(2, by=0)
+                guard.deliver(2, by=0)
+                guard.deliver(3, by=0)
+                key, kinds = Key.PROCESS, Kind
+                guard.kill(key, "p1", kinds.KILL_INSTANTLY, by=1)
+                guard.kill(key, "p0", kinds.REBOOT_AND_DELETE, by=1)
+                guard.clog(key, "p2", 3, by=1)
+                emptied = faultyard.State(up=False, clogged=False, destroyed=True, gone=False)
+                gone = faultyard.State(up=False, clogged=False, destroyed=True, gone=True)
+                clogged = faultyard.State(up=True, clogged=True, destroyed=False, gone=False)
+                wanted = [emptied, gone, clogged, up]
+                self.assertEqual([guard.state(it) for it in range(4)], wanted)
+                self.assertEqual(guard.up_set(), {2, 3, 4, 5})
+                needed = [guard.needed(it) for it in (0, 1, 2, 6)]
+                self.assertEqual(needed, [0, None, None, None])
+                audits.append(guard.audit())
+                guard.reset()
+                self.assertEqual(guard.audit(), common.HEADER)
+            self.assertEqual(audits[0], audits[1])
+
+    def test_a_copy_has_the_journal_and_goes_its_own_way(self):
+        key, kinds = Key, Kind
+        with Guard(common.SIX, transport=self.transport) as guard:
+            guard.tick(5, by=0)
+            guard.kill(key.ZONE, "z0", kinds.KILL_INSTANTLY, by=1)
+            before = guard.audit()
+            other = guard.try_copy()
+            self.assertEqual(other.audit(), before)
+            self.assertEqual((other.left(), other.sight().now), ({2, 3, 4, 5}, 5))
+            other.kill(key.PROCESS, "p4", kinds.REBOOT, by=1)
+            self.assertEqual((other.up_set(), guard.up_set()), ({2, 3, 5}, {2, 3, 4, 5}))
+            self.assertEqual(guard.audit(), before)
+            ahead = other.audit()
+        self.assertEqual(other.audit(), ahead)
+        other.close()
+        self.assertEqual((other.audit(), other.journal_len()), (ahead, 3))
+        with self.assertRaises(faultyard.GuardClosed):
+            other.try_copy()
+        self.assertEqual(faultyard.check(common.SIX, ahead), 3)
+
     def test_processes_by_their_names(self):
         guard = self.guard()
         self.assertEqual(guard.process_count(), 6)
@@ -576,7 +673,7 @@ class OverThePipe(GuardTests, unittest.TestCase):
         self.assertEqual(len({state for column in states for state in column}), 10)
 
     def test_a_server_goes_on_by_itself(self):
-        with self.assertRaises(faultyard.NotOffered):
+        with self.assertRaises(ValueError):
             Guard(common.SIX, after="audit", server="http://127.0.0.1:1")
 
 
@@ -587,13 +684,13 @@ class OverTheLibrary(GuardTests, unittest.TestCase):
 
 @unittest.skipUnless(common.LIBRARY, common.WITHOUT)
 class BothTransports(common.Folder, unittest.TestCase):
-    """What the pipe follows by itself is what the library knows."""
+    """What is told over the pipe is what the library's calls answer."""
 
     def test_who_is_destroyed_and_left_after_each_random_act(self):
         config = common.six_with(self.folder, 4_000)
         for seed in range(4):
             with Guard(config) as pipe, Guard(config, transport="library") as library:
-                for by, act in common.random_acts(seed, 1_000):
+                for by, act in common.random_acts(seed, 200):
                     self.assertEqual(pipe.act(by, act), library.act(by, act))
                     self.assertEqual(
                         [pipe.is_destroyed(p) for p in range(7)],

@@ -3,6 +3,7 @@ the server."""
 
 import asyncio
 import json
+import os
 import signal
 import subprocess
 import sys
@@ -10,6 +11,7 @@ import unittest
 from itertools import islice
 from pathlib import Path
 from random import Random
+from unittest import mock
 
 import common
 import faultyard
@@ -23,7 +25,6 @@ THREE = common.ROOT / "tests/nemesis/three.toml"
 EMPTY = Order(Kind.REBOOT_AND_DELETE, Key.PROCESS, "p1")
 
 
-@common.needs_toml("a harness that reads cluster files")
 class ClusterFileTest(unittest.TestCase):
     def test_places_and_actors_are_those_of_the_file(self):
         file = ClusterFile.read(THREE)
@@ -40,11 +41,32 @@ class ClusterFileTest(unittest.TestCase):
             ClusterFile.parse(text).actor(Role.OPERATOR)
         self.assertIn("no actor with the role operator", str(caught.exception))
 
-    def test_what_only_toml_1_1_has_is_refused_with_its_place(self):
+    def test_what_only_toml_1_1_has_is_read_as_the_program_reads_it(self):
         text = THREE.read_bytes().replace(b'"operator"}', b'"operator",}')
+        self.assertEqual(ClusterFile.parse(text), ClusterFile.read(THREE))
+
+    def test_a_file_that_is_refused_has_its_fault_line(self):
         with self.assertRaises(faultyard.ConfigRefused) as caught:
-            ClusterFile.parse(text)
-        self.assertRegex(str(caught.exception), r"TOML 1\.0: .* \(at line \d+, column \d+\)")
+            ClusterFile.parse(b"policies = [")
+        self.assertEqual(caught.exception.fault, "config: Toml")
+
+    def test_what_a_guard_tells_has_the_grants_as_they_are_now(self):
+        with Guard(THREE) as guard:
+            file = ClusterFile.read(THREE)
+            self.assertEqual(guard.cluster(), file)
+            guard.act(3, {"give": {"actor": 3, "kinds": ["Reboot"], "scope": "all"}})
+            told = guard.cluster()
+            self.assertEqual(told.actors[3].kinds, {Kind.REBOOT})
+            self.assertEqual(told.places, file.places)
+
+    def test_without_a_program_the_library_reads_it(self):
+        file = ClusterFile.read(THREE)
+        with mock.patch.dict(os.environ, FAULTYARD="/none/faultyard"):
+            if common.LIBRARY:
+                self.assertEqual(ClusterFile.read(THREE), file)
+            with mock.patch.dict(os.environ, FAULTYARD_LIB="/none/libfaultyard.so"):
+                with self.assertRaisesRegex(faultyard.NotFound, "no program"):
+                    ClusterFile.read(THREE)
 
 
 class PlansTest(unittest.TestCase):
@@ -139,7 +161,6 @@ class SimulatedTest(unittest.TestCase):
         self.assertEqual([order.clogged for order in orders], [0.25, 0.25, 0.0, 0.0] * 2)
 
 
-@common.needs_toml("a harness that reads cluster files")
 class LedgerTest(unittest.TestCase):
     def setUp(self):
         self.guard = Guard(THREE)
@@ -233,7 +254,7 @@ class EntryTest(common.Folder, unittest.TestCase):
 
     @unittest.skipUnless(common.LIBRARY, common.WITHOUT)
     def test_a_folder_asks_for_the_pipe(self):
-        with self.assertRaises(faultyard.NotOffered):
+        with self.assertRaises(ValueError):
             Guard(THREE, transport="library", folder=self.folder)
 
     def test_a_picture_and_what_was_done_beyond_the_guard(self):
@@ -284,7 +305,6 @@ class Mine(Harness):
         self.done.append((processes, is_clogged))
 
 
-@common.needs_toml("a harness that reads cluster files")
 class HarnessTest(common.Folder, unittest.TestCase):
     def played(self, play, **more):
         """A harness that played, and its events."""

@@ -3,6 +3,7 @@
 Expected are the bytes that the protocols' own documents have.
 """
 
+import json
 import os
 import pwd
 import socket
@@ -10,6 +11,7 @@ import struct
 import subprocess
 import sys
 import tempfile
+import textwrap
 import threading
 import unittest
 from pathlib import Path
@@ -21,7 +23,7 @@ from faultyard_hooks.amqp import Amqp
 from faultyard_hooks.client import OneOf
 from faultyard_hooks.http import Http, base64, plain
 from faultyard_hooks.jsonrpc import JsonRpc
-from faultyard_hooks.nats import Nats, on_disk, text
+from faultyard_hooks.nats import Nats, answers_itself, on_disk, text
 from faultyard_hooks.ovsdb import Ovsdb
 from faultyard_hooks.piped import Piped
 from faultyard_hooks.postgres import Postgres
@@ -352,6 +354,16 @@ class Helpers(unittest.TestCase):
             self.assertIsNone(fy.record_in("r/000000003", folder, "*"))
             Path(folder, "c").write_text(one.replace("1 ", "3 "))
             self.assertEqual(fy.record_in("r/000000003", folder, "*"), "0123456789abcdef")
+        asked = []
+
+        def told(number):
+            asked.append(number)
+            return {"r/000000001": f"{number}"}
+
+        for number in (3, 3, 4):
+            self.assertEqual(fy.record_in("r/000000001", told, number), f"{number}")
+            self.assertIsNone(fy.record_in("r/000000002", told, number))
+        self.assertEqual(asked, [3, 3, 3, 4, 4], "what isn't found is looked for again")
 
     def test_waiting_goes_on_after_a_fault(self):
         def ask():
@@ -808,6 +820,23 @@ class NatsAnswers(unittest.TestCase):
     def test_a_text_is_in_base64(self):
         self.assertEqual(text({"data": "dg=="}), "v")
 
+    def test_a_server_tells_what_it_has_itself(self):
+        """By a head and the text; a server that has none says so by the head's status."""
+        head = b"NATS/1.0\r\nNats-Stream: R\r\nNats-Sequence: 4\r\n\r\n"
+        found = b"HMSG in.x 1 %d %d\r\n%sv3\r\n" % (len(head), len(head) + 2, head)
+        none = b"NATS/1.0 404 Message Not Found\r\n\r\n"
+        lacks = b"HMSG in.x 1 %d %d\r\n%s\r\n" % (len(none), len(none), none)
+        self.assertEqual(self.asked(found, lacks), [{"text": "v3"}, None])
+
+    def test_a_server_that_does_not_listen_is_told_by_its_own_subscriptions(self):
+        """Those of others, who would answer in its place, aren't among them."""
+        listed = {"subject": "$JS.API.DIRECT.GET.R", "qgroup": "_sys_", "cid": 14}
+        for subscriptions, says in (([listed], True), ([], False), (None, False)):
+            its = {} if subscriptions is None else {"subscriptions_list": subscriptions}
+            with mock.patch("faultyard_hooks.http.Http.ask", return_value=its) as asked:
+                self.assertEqual(answers_itself("h0:8222", "U", "R"), says)
+            asked.assert_called_once_with("/subsz?subs=1&acc=U&test=$JS.API.DIRECT.GET.R")
+
     def test_the_files_of_a_stream_have_its_messages(self):
         def entry(number, subject, value):
             size = 30 + len(subject) + len(value)
@@ -970,6 +999,37 @@ class ErlangNodes(unittest.TestCase):
         status, _, said, _ = self.call("read", told="", status="1")
         why = "b@10.0.0.2 doesn't answer: erl_call ended with status 1"
         self.assertEqual((status, said), (1, f"Refused: {why}\n"))
+
+    def test_a_node_is_asked_for_what_is_new_as_long_as_it_lives(self):
+        """A second life begins with what it has then, of which the first may have had more."""
+        env = {"FY_HOSTS": "h0", "FY_NAMES": "a", "FY_COUNT": "1", "FY_PORT": "20000"}
+        script = """
+            from faultyard_hooks import erlang
+            told, asked = __import__("json").loads(input()), []
+
+            def evaluated(n, code):
+                asked.append(code.partition("Index > ")[2].partition("]")[0])
+                return told.pop(0)
+
+            erlang.evaluated = evaluated
+            for _ in range(4):
+                print(erlang.held(0, "q"), asked)
+        """
+        one, two, three = (f'"r/00000000{n} {n:016x}"' for n in (1, 2, 3))
+        told = [f"{{5, 8, [{one}, {two}]}}", "{5, 0, []}", f"{{5, 9, [{three}]}}"]
+        told += ["{6, 9, []}", f"{{6, 9, [{one}, {three}]}}"]
+        words = [sys.executable, "-c", textwrap.dedent(script)]
+        more = {"env": os.environ | env, "text": True, "input": json.dumps(told)}
+        ran = subprocess.run(words, stdout=subprocess.PIPE, check=True, **more)
+        has = {n: (f"r/00000000{n}", f"{n:016x}") for n in (1, 2, 3)}
+        wanted = [
+            ((1, 2), ["0"]),
+            ((1, 2), ["0", "8"]),
+            ((1, 2, 3), ["0", "8", "8"]),
+            ((1, 3), ["0", "8", "8", "9", "0"]),
+        ]
+        lines = [f"{dict(has[n] for n in those)} {asked}" for those, asked in wanted]
+        self.assertEqual(ran.stdout.splitlines(), lines)
 
     def test_the_daemon_is_started_before_any_node(self):
         self.assertIn("setup", self.call("hooks")[1].split())

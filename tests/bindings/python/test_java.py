@@ -1,6 +1,5 @@
 """The Java binding, by the program of tests/bindings/java/GuardTest.java."""
 
-import random
 import re
 import subprocess
 import tempfile
@@ -61,99 +60,6 @@ def written(states, key, value):
     return f"{line} {key} {value} {targets}\n"
 
 
-class Spelling:
-    """Cluster files in the many ways in which TOML can be written."""
-
-    def __init__(self, seed):
-        self.source = random.Random(seed)
-
-    def one_of(self, *ways):
-        return self.source.choice(ways)
-
-    def blank(self):
-        """What may stand between two words of an array."""
-        return self.one_of("", "", " ", "\t", "\n", "\r\n", " # ]} \" ' \u2028 [[process]]\n\n")
-
-    def escaped(self, text):
-        """A text in which some characters are escaped."""
-        ways = (
-            lambda it: it,
-            lambda it: it,
-            lambda it: f"\\u{ord(it):04x}",
-            lambda it: f"\\U{ord(it):08X}",
-        )
-        return "".join(self.source.choice(ways)(it) for it in text)
-
-    def string(self, text):
-        broken = (
-            self.escaped(text[:1])
-            + self.one_of("", "\\\n  ", "\\ \r\n\n\t")
-            + self.escaped(text[1:])
-        )
-        begin = self.one_of("", "\n", "\r\n")
-        return self.one_of(
-            f'"{self.escaped(text)}"', f"'{text}'", f'"""{begin}{broken}"""', f"'''{begin}{text}'''"
-        )
-
-    def key(self, text):
-        return self.one_of(text, text, f'"{self.escaped(text)}"', f"'{text}'")
-
-    def pair(self, key, value):
-        blanks = [self.one_of("", " ", "\t") for _ in range(2)]
-        return f"{self.key(key)}{blanks[0]}={blanks[1]}{value}"
-
-    def table(self, pairs):
-        """An inline table, which has one line."""
-        made = [self.one_of("", " ") + self.pair(*it) + self.one_of("", " ") for it in pairs]
-        return "{" + ",".join(made) + "}"
-
-    def array(self, items):
-        made = [self.blank() + it + self.blank() for it in items]
-        return "[" + ",".join(made) + (self.one_of("", "," + self.blank()) if made else "") + "]"
-
-    def tables(self, name, elements):
-        """An array of tables, by its elements' pairs: inline, or each behind a header."""
-        if self.one_of(True, False):
-            return self.pair(name, self.array([self.table(it) for it in elements])) + "\n", ""
-        headed = ""
-        for pairs in elements:
-            gap = self.one_of("", " ", "\t")
-            headed += f"[[{gap}{self.key(name)}{gap}]]" + self.one_of("\n", " # [[\n", "\r\n")
-            headed += "".join(self.pair(*it) + self.one_of("\n", "#'\n", "\n\n \t") for it in pairs)
-        return "", headed
-
-    def file(self):
-        keys = {"machineid": "m", "zoneid": "z", "data_hall": "h", "dcid": "d"}
-        processes = []
-        for number in range(self.source.randrange(1, 8)):
-            place = [("processid", self.string(f"p{number}"))]
-            for key, letter in keys.items():
-                if key in ("machineid", "zoneid") or self.source.random() < 0.5:
-                    place.append((key, self.string(f"{letter}{self.source.randrange(3)}")))
-            processes.append(self.source.sample(place, len(place)))
-        kinds = self.array([self.string(it) for it in common.KINDS])
-        grant = self.table(
-            [
-                ("kinds", self.array([])),
-                ("key", self.string("zoneid")),
-                ("value", self.string("z0")),
-            ]
-        )
-        actors = [[("role", self.string("storage"))]]
-        actors.append([("grants", f"[{grant},{{kinds={kinds}}}]"), ("role", self.string("fault"))])
-        parts = [
-            (self.pair("journal_limit", self.one_of("9", "1_000", "0x1F", "+7")) + "\n", ""),
-            (self.pair("policies", self.array([self.string("One()")])) + "\n", ""),
-            self.tables("process", processes),
-            self.tables("actor", actors),
-        ]
-        self.source.shuffle(parts)
-        headed = "".join(it for _, it in parts)
-        if "actor" in headed:
-            headed += self.one_of("", "[[actor]]\nrole='fault'\n[[actor . \"grants\"]]\nkinds=[]\n")
-        return "".join(it for it, _ in parts) + headed
-
-
 class Java(common.Folder, unittest.TestCase):
     @classmethod
     def setUpClass(cls):
@@ -205,10 +111,8 @@ class Java(common.Folder, unittest.TestCase):
         self.assertEqual(met, {None, *list(faultyard.Kind)[:4]})
 
     @common.needs_toml("the places of processes in Java")
-    def test_the_places_are_those_of_any_cluster_file(self):
+    def test_the_places_are_those_of_the_cluster_file(self):
         files, wanted = [common.SIX, common.ROOT / "examples/regions.toml"], ""
-        for number in range(100):
-            files.append(common.written(self.folder, f"{number}.toml", Spelling(number).file()))
         values = [(key, f"{letter}{at}") for key, letter in common.KEYS.items() for at in range(8)]
         values += [("dcid", "north"), ("processid", "north-1a")]
         for file in files:

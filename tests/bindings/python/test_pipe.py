@@ -203,50 +203,89 @@ class PipeTest(common.Folder, unittest.TestCase):
                 Guard(common.SIX)
             Guard(common.SIX, program=common.PROGRAM).close()
 
-    def test_without_a_reader_of_toml_nothing_is_guessed(self):
-        with Guard(common.SIX) as guard, mock.patch.dict(
-            sys.modules, {"tomllib": None, "tomli": None}
-        ):
-            asked = [guard.left, guard.destroyed, guard.gone, guard.process_count]
-            asked += [lambda: guard.is_destroyed(0), lambda: guard.process("p0")]
-            asked += [lambda: guard.targets(faultyard.Key.ZONE, "z0"), guard.up_set]
-            asked += [lambda: guard.state(0), lambda: guard.killable(by=1)]
-            asked += [lambda: guard.judge_process(0, faultyard.Kind.REBOOT, by=1)]
-            asked += [lambda: guard.kill_process(0, faultyard.Kind.REBOOT, by=1)]
-            for ask in asked:
-                with self.assertRaises(faultyard.NotOffered):
-                    ask()
+    def test_a_program_without_questions_is_told_to_be_older(self):
+        text = '#!/bin/sh\nfor word; do :; done\n[ "$word" = --questions ] && exit 2\nexit 1\n'
+        older = self.script("older", text)
+        with self.assertRaises(faultyard.ProtocolError) as caught:
+            Guard(common.SIX, program=older)
+        wanted = f"{older}: it takes no `guard --questions`, so it is older than this package"
+        self.assertEqual(str(caught.exception), wanted)
+        # Behind an audit the program tells nothing before it is asked.
+        audit = common.written(self.folder, "audit", common.HEADER)
+        guard = Guard(common.SIX, program=older, after=audit)
+        for ask in (guard.sight, lambda: guard.tick(1, by=0), guard.left):
+            with self.assertRaises(faultyard.ProtocolError) as caught:
+                ask()
+            self.assertEqual(str(caught.exception), wanted)
 
-    def test_what_the_pipe_does_not_answer(self):
-        with Guard(common.SIX) as guard:
-            asked = [lambda: guard.is_acked(0), lambda: guard.keeper(0), guard.sight]
-            asked += [lambda: guard.needed(0), guard.reset, guard.try_copy]
-            for ask in asked:
-                with self.assertRaises(faultyard.NotOffered):
-                    ask()
-            self.assertEqual(guard.tick(1, by=0), 1)
+    def test_an_answer_that_is_none_of_its_question_ends_the_guard(self):
+        text = "#!/bin/sh\necho '{\"audit\":2}'\nread line\necho '%s'\nread line\n"
+        for answer in ('{"at":0}', "[]", '{"tell":{"sight":{}}}'):
+            guard = Guard(common.SIX, program=self.script("odd", text % answer))
+            with self.assertRaises(faultyard.ProtocolError):
+                guard.sight()
+            with self.assertRaises(faultyard.GuardEnded):
+                guard.sight()
+        self.assert_nothing_runs()
+
+    def test_a_silent_guard_that_is_asked_is_ended_after_the_timeout(self):
+        guard = Guard(common.SIX)
+        guard._transport._timeout = 0.3
+        os.kill(self.started(), signal.SIGSTOP)
+        with self.assertRaises(faultyard.GuardEnded):
+            guard.sight()
+        self.assert_nothing_runs()
 
     def test_looking_ahead_from_a_full_journal(self):
         kind = faultyard.Kind.REBOOT
         with Guard(common.six_with(self.folder, 2)) as guard:
             for number in range(2):
-                self.assertIs(guard.judge_process(0, kind, by=1).struck, kind)
                 guard.tick(1, by=0)
-            for ask in (
-                lambda: guard.judge(faultyard.Key.PROCESS, "p0", kind, by=1),
-                lambda: guard.judge_process(0, kind, by=1),
-                lambda: guard.killable(by=1),
-            ):
-                with self.assertRaises(faultyard.JournalFull):
-                    ask()
+            verdict = faultyard.Verdict(kind, None, None)
+            self.assertEqual(guard.judge(faultyard.Key.PROCESS, "p0", kind, by=1), verdict)
+            self.assertEqual(guard.judge_process(0, kind, by=1), verdict)
+            self.assertEqual(guard.killable(by=1), [faultyard.Kind.KILL_INSTANTLY] * 6)
             self.assertEqual(guard.journal_len(), 2)
 
     def test_looking_ahead_leaves_nothing_behind(self):
         with Guard(common.SIX) as guard, mock.patch.dict(os.environ, TMPDIR=self.folder):
             with mock.patch("tempfile.tempdir", None):
                 self.assertEqual(guard.killable(by=1), [faultyard.Kind.KILL_INSTANTLY] * 6)
+                guard.try_copy().close()
+                guard.reset()
             self.assertEqual(os.listdir(self.folder), [])
             self.assertEqual(children(), self.before | {self.started()})
+
+    def test_looking_ahead_starts_no_program(self):
+        with Guard(common.SIX) as guard, mock.patch("subprocess.Popen", side_effect=OSError):
+            guard.killable(by=1)
+            guard.judge(faultyard.Key.ZONE, "z0", faultyard.Kind.REBOOT, by=1)
+            guard.bears()
+            self.assertEqual(guard.kill_process(0, faultyard.Kind.REBOOT, by=1).rule, None)
+
+    def test_a_reset_is_of_the_cluster_file_as_it_was_opened(self):
+        config = common.six_with(self.folder, 2)
+        with Guard(config) as guard:
+            first = self.started()
+            guard.tick(1, by=0)
+            config.write_text("policies = [")
+            guard.reset()
+            self.assertEqual(guard.audit(), common.HEADER)
+            self.assertEqual((guard.tick(1, by=0), guard.tick(1, by=0)), (1, 2))
+            self.assertNotEqual(self.started(), first)
+            with guard.try_copy() as other:
+                self.assertEqual((other.sight().now, other.audit()), (2, guard.audit()))
+            guard.begin_again()
+            self.assertEqual(guard.sight().now, 2)
+        self.assert_nothing_runs()
+
+    def test_a_reset_cuts_no_audit_that_a_folder_keeps(self):
+        with Guard(common.SIX, folder=self.folder) as guard:
+            guard.tick(1, by=0)
+            with self.assertRaises(faultyard.AuditExists):
+                guard.reset()
+            self.assertEqual(guard.tick(1, by=0), 2)
+        self.assertEqual(Path(self.folder, "audit").read_text(), guard.audit())
 
     def test_how_much_may_still_be_lost(self):
         key, kind = faultyard.Key.ZONE, faultyard.Kind.KILL_INSTANTLY

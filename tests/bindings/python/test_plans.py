@@ -81,11 +81,20 @@ class Plans(common.Folder, unittest.TestCase):
         self.assertRaises(faultyard.GuardClosed, guard.swizzle_plan, 0, 0)
         self.assertRaises(faultyard.GuardClosed, guard.attrition_plan, 0, 0)
 
-    def test_the_pipe_has_no_plans(self):
-        with Guard(common.SIX) as guard:
-            self.assertRaises(faultyard.NotOffered, guard.swizzle_plan, 0, 0)
-            self.assertRaises(faultyard.NotOffered, guard.attrition_plan, 0, 0)
-            self.assertRaises(faultyard.NotOffered, guard.plan_orders, Plan.MIXED, 0, 0, 1)
+    def test_over_the_pipe_the_library_draws_the_same(self):
+        asks = [
+            lambda guard: guard.swizzle_plan(7, 1),
+            lambda guard: guard.attrition_plan(7, 1),
+            lambda guard: guard.plan_orders(Plan.MIXED, 7, 1, 9),
+        ]
+        with Guard(common.SIX) as pipe, self.guard() as guard:
+            pipe.kill(Key.ZONE, "z0", Kind.KILL_INSTANTLY, by=1)
+            for ask in asks:
+                self.assertEqual(ask(pipe), ask(guard))
+            self.assertEqual(pipe.journal_len(), 1)
+        with Guard(common.SIX, library="/none/libfaultyard.so") as guard:
+            for ask in asks:
+                self.assertRaises(faultyard.NotFound, ask, guard)
 
     def alone(self):
         """A cluster whose one actor is a fault actor, which so takes each turn of a simulation."""

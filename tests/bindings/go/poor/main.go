@@ -36,6 +36,8 @@ func main() {
 	fmt.Println("Take:", guard.Take(0, 0, 0))
 	_, err = guard.Act(nil)
 	fmt.Println("Act:", err)
+	_, err = guard.Ask(nil)
+	fmt.Println("Ask:", err)
 	_, err = guard.Entry(0)
 	fmt.Println("Entry:", err)
 	_, err = guard.Audit()

@@ -305,6 +305,13 @@ void fy_sight(const fy_guard *guard, fy_seen *seen)
     memset(seen, 0, sizeof *seen);
 }
 
+uint32_t fy_ask(const fy_guard *guard, const uint8_t *line, size_t line_length, uint8_t *buffer,
+                size_t buffer_length, size_t *told)
+{
+    require_turn();
+    return FY_NO_MEMORY;
+}
+
 uint32_t fy_bears(const fy_guard *guard, fy_borne *borne)
 {
     require_turn();

@@ -5,6 +5,8 @@
 //!     play apart CONFIG < ACTS     on eight guards in eight threads at once: all audits are one
 //!     play shared CONFIG < ACTS    on one guard behind a mutex, by eight threads in any order
 //!     play refused CONFIG ..       tells on a line why each cluster file is refused
+//!     play asked < LINES           makes acts and asks questions, and writes each answer; a line
+//!                                  with the path of a cluster file opens a guard
 //!
 //! A line of ACTS is a line of a script, or the name of an act with its numbers behind tabs, as
 //! tests/bindings/python/played.py says. Each answer is held against its entry in the journal.
@@ -288,10 +290,34 @@ fn refused(configs: &[String]) -> io::Result<()> {
     Ok(())
 }
 
+/// Answers each line of standard input.
+fn answer_lines() -> io::Result<()> {
+    let mut guard = None;
+    for line in io::stdin().lines() {
+        let line = line?;
+        if line.starts_with('/') {
+            guard = Some(Guard::open(fs::read_to_string(line)?).expect("a cluster file"));
+            continue;
+        }
+        let guard = guard.as_mut().expect("a guard");
+        let is_question = line.starts_with(r#"{"ask""#);
+        let answer = if is_question {
+            guard.ask(&line)
+        } else {
+            guard.act(&line)
+        };
+        print!("{}", answer.expect("an answer"));
+    }
+    Ok(())
+}
+
 fn main() -> io::Result<()> {
     let words: Vec<String> = env::args().skip(1).collect();
     if words[0] == "refused" {
         return refused(&words[1..]);
+    }
+    if words[0] == "asked" {
+        return answer_lines();
     }
     let config = fs::read_to_string(&words[1])?;
     let mut text = String::new();

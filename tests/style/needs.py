@@ -1,11 +1,5 @@
-#!/usr/bin/env python3
 """Tests tests/tools/needs where the machine lacks all programs, what tests/suites counts of it, and
-that tests/suites names what it never runs.
-
-    tests/style/needs
-
-The last line has two numbers, how many tests passed and how many failed.
-"""
+that tests/suites names what it never runs."""
 
 import os
 import re
@@ -204,14 +198,3 @@ class ByHand(unittest.TestCase):
         suite = re.search(r'SHORT = """(.*?)"""', (here / "run").read_text(), re.S)[1].split()
         runs = re.findall(r"tests/hosts/run \S+ (.*)", "\n".join(recipes().values()))
         self.assertEqual({*suite, *" ".join(runs).split()} & modules, modules)
-
-
-def main():
-    tests = unittest.defaultTestLoader.loadTestsFromModule(sys.modules[__name__])
-    result = unittest.TextTestRunner(sys.stderr, verbosity=0).run(tests)
-    failed = len(result.failures) + len(result.errors)
-    print(result.testsRun - failed, failed)
-
-
-if __name__ == "__main__":
-    main()
