@@ -30,6 +30,7 @@ type guest struct {
 	// The lock of the crowd guards these.
 	still  time.Time // since when nothing of it is answered
 	busy   int       // how many of its requests are answered
+	served bool      // one of them was
 	known  bool      // it has shown a token
 	isLast bool      // when it came, only places were left that are kept
 }
@@ -80,10 +81,10 @@ func (its *crowd) makeRoom(most int, address string) bool {
 	}
 }
 
-// idlest counts them, and finds the one who has asked nothing for the longest time: of an address,
-// or of that with the most who may go. So a crowd from elsewhere sends nobody away who is alone.
+// idlest counts them, and finds the one who goes first: of an address, or of that with the most who
+// may go. So a crowd from elsewhere sends nobody away who is alone.
 func (its *crowd) idlest(address string) (count int, idle *guest) {
-	groups := map[string]int{}
+	groups, now := map[string]int{}, time.Now()
 	for guest := range its.all {
 		if address != "" && (guest.address != address || guest.known) {
 			continue
@@ -98,11 +99,26 @@ func (its *crowd) idlest(address string) (count int, idle *guest) {
 			continue
 		}
 		if idle == nil || groups[guest.address] > groups[idle.address] ||
-			groups[guest.address] == groups[idle.address] && guest.still.Before(idle.still) {
+			groups[guest.address] == groups[idle.address] && guest.goesBefore(idle, now) {
 			idle = guest
 		}
 	}
 	return count, idle
+}
+
+// goesBefore says whether it goes before another: who is new goes last, and else first who has
+// asked nothing for the longest time.
+func (its *guest) goesBefore(other *guest, now time.Time) bool {
+	if its.isNew(now) != other.isNew(now) {
+		return other.isNew(now)
+	}
+	return its.still.Before(other.still)
+}
+
+// isNew says whether it may still be about to begin. One who was served and goes comes again, as
+// HTTP has it; for one who goes while it shakes hands, or before it has asked, that is an error.
+func (its *guest) isNew(now time.Time) bool {
+	return !its.served && now.Sub(its.still) < handshakeLimit
 }
 
 // Close closes the connection.
@@ -125,6 +141,7 @@ func (its *guest) ends() {
 	its.crowd.lock.Lock()
 	defer its.crowd.lock.Unlock()
 	its.busy--
+	its.served = true
 	its.still = time.Now()
 }
 

@@ -1111,6 +1111,32 @@ func TestACrowdFromElsewhereSendsNobodyAwayWhoIsAlone(test *testing.T) {
 	same(test, "who are connected", its.count(), 14)
 }
 
+func TestWhoIsAboutToBeginIsLeftAlone(test *testing.T) {
+	const address = "10.0.0.1:1"
+	var its crowd
+	comes := func() *guest {
+		end, _ := net.Pipe()
+		return its.admit(from{end, address}, 16, true)
+	}
+	slow := comes()
+	for number := 0; number < 100; number++ {
+		served := comes()
+		served.begins()
+		served.ends()
+	}
+	same(test, "who came first is there, as the others were served", its.all[slow], true)
+	silent := comes()
+	silent.still = silent.still.Add(-handshakeLimit)
+	comes()
+	same(test, "who has begun nothing in time has gone", its.all[silent], false)
+	same(test, "and nobody else for it", its.all[slow], true)
+	for number := 0; number < 100; number++ {
+		comes()
+	}
+	same(test, "where all are new, who came first has gone", its.all[slow], false)
+	same(test, "who are connected", its.count(), 8)
+}
+
 // from is a connection from an address.
 type from struct {
 	net.Conn
