@@ -171,6 +171,11 @@ nemesis-aborts:
 nemesis-deaths:
 	HOSTS_DEATHS=100 HOSTS_AT_ONCE=4 tests/hosts/run bin/faultyard deaths
 
+## runs `faultyard-nemesis` with power cuts, cut and shaped networks, disks that are slow, full or
+## damaged, and clocks that are off; takes seven minutes, and has to be root
+try-power: build
+	tests/power/run bin/faultyard
+
 ## runs `faultyard-nemesis` on hosts in trouble, as units, in pods, in containers, with other
 ## stores; then redis, etcd and PostgreSQL by ssh, guarded and unguarded with two seeds each, and
 ## prints a table; takes twenty minutes, and has to be root

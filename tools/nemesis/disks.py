@@ -240,6 +240,9 @@ class Kernel(Disks):
         flags = struct.pack("I", self.LOG_FLUSHED if tear & 1 else self.LOG_LOST)
         opened = os.open(self.folder(number), os.O_RDONLY)
         try:
+            # Where nothing is mounted, this would shut down the machine's own file system.
+            if os.fstat(opened).st_dev == self._out.stat().st_dev:
+                raise Fault(TOOL, f"no disk is mounted at {self.folder(number)}")
             fcntl.ioctl(opened, self.SHUTDOWN, flags)
         finally:
             os.close(opened)
