@@ -245,6 +245,11 @@ packaged:
 try-dist:
 	tests/dist/try dist
 
+## runs the command of each store's page as it is written, in a bare root with what is in `dist/`
+## and Debian's packages that the page names; takes half an hour
+try-commands:
+	tests/dist/try --commands dist
+
 # Beside the same command in plain Rust, where there is a rustc; and where BESIDE is the path of
 # another program of this command line, `run`, `check` and `swarm` beside its own.
 ## times the program, the verdicts and the cluster (PERFORMANCE.md)

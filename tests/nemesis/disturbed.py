@@ -248,6 +248,8 @@ class Disturbed(Case):
             (["--net", "--latency", "5±20"], "'5±20' isn't as 20±5"),
             (["--net", "--latency", "x"], "--latency"),
             (["--skew", 0], "--skew"),
+            (["--uptime", 0], "--uptime"),
+            (["--uptime", 0.5], "--uptime"),
             (
                 ["--beside", "mixed"],
                 "'mixed' is none of partition, slow-disk, full-disk, slow, los",

@@ -1,12 +1,14 @@
 """Clocks of processes that are off, by libfaketime, which stands before the C library.
 
 The wall clock of a process is what its machine's says and an offset, which stands in a file and is
-read each time. Monotonic clocks stay as they are. What doesn't ask the C library has the machine's
-time: programs that are linked statically, and those in Go.
+read each time. What doesn't ask the C library has the machine's time: programs that are linked
+statically, and those in Go. Monotonic clocks are off by namespaces of times, which all programs are
+in; there a clock can't be set once anything runs.
 """
 import ctypes
 import mmap
 import os
+import shutil
 import struct
 import subprocess
 from argparse import Namespace
@@ -26,6 +28,7 @@ LOADER = b"/ld-linux"  # in the part of a program that says which loader it need
 MEMORY = Path("/dev/shm")
 LIBC = ctypes.CDLL(None, use_errno=True)
 LIBC.sem_open.restype = ctypes.c_void_p
+FAR = 10**6  # seconds, by which it is tried whether monotonic clocks can be off
 
 
 def library() -> Path | None:
@@ -116,6 +119,37 @@ class Clocks:
             return None
         self.own[number] = why
         return why
+
+
+class Uptimes:
+    """For how long each start of a process finds its machine up, as the seed says: its monotonic
+    clock is ahead of the machine's, and goes back at a later start, as one does by a reboot."""
+
+    def __init__(self, words: Namespace, count: int) -> None:
+        self._most = words.uptime
+        self._dice = [Random(f"{words.seed}-uptime-{number}") for number in range(count)]
+
+    def words(self, number: int) -> list[str]:
+        return ahead(self._dice[number].randint(0, self._most))
+
+
+def ahead(seconds: int) -> list[str]:
+    """The words before a command whose monotonic clock is so far ahead of the machine's."""
+    user = ["--user", "--map-current-user", "--keep-caps"] if os.geteuid() else []
+    return ["unshare", *user, "--time", f"--monotonic={seconds}", f"--boottime={seconds}"]
+
+
+def lacking_uptimes() -> str | None:
+    """What the machine lacks for monotonic clocks that are off, if it does."""
+    if not shutil.which("unshare"):
+        return "unshare"
+    command = [*ahead(FAR), "cat", "/proc/uptime"]
+    tried = subprocess.run(command, capture_output=True, text=True, check=False)
+    if tried.returncode:
+        return f"namespaces of times: {tried.stderr.strip().splitlines()[-1]}"
+    if float(tried.stdout.split()[0]) < FAR:
+        return "a kernel where a program enters its namespace of times"
+    return None
 
 
 def reason(pid: int) -> str | None:

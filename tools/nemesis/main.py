@@ -72,6 +72,11 @@ def seconds(text: str) -> float:
     return found
 
 
+def whole_seconds(text: str) -> int:
+    """More than none."""
+    return int(seconds(str(int(text))))
+
+
 def pair(text: str) -> list[float]:
     """Two weights."""
     if len(found := numbers(text)) != 2:
@@ -124,6 +129,9 @@ def parsed(given: Sequence[str] | None = None) -> argparse.Namespace:
     add("--latency", type=disturbances.latency_of, metavar="MS±MS", help=text)
     text = "each clock is off by up to so many seconds, as the seed says"
     add("--skew", type=seconds, metavar="SECONDS", help=text)
+    text = "each start finds a machine that is up for up to so many seconds more, as the seed "
+    text += "says: monotonic clocks, also of programs in Go"
+    add("--uptime", type=whole_seconds, metavar="SECONDS", help=text)
     text = "what a Clog loses with --net: what the process sends, what it gets, or both (both)"
     add("--clog", choices=WAYS, default="both", help=text)
     text = "where each process is reached: HOST:PORT,.. or a file of lines NAME HOST:PORT"

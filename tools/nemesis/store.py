@@ -20,7 +20,7 @@ from faultyard.plans import Order
 
 from . import HOOK, USAGE, Fault, alone, clock, clock_ns, say
 from .alone import OWN
-from .clocks import Clocks, library, offsets
+from .clocks import Clocks, Uptimes, lacking_uptimes, library, offsets
 from .crashes import ROUNDS, Crashes, end_of_log, in_words
 from .damage import Damage
 from .disks import Cut, disks_of
@@ -42,6 +42,7 @@ ALONE = 20.0  # seconds for which a process that joined has to be ready before a
 CRASHES_SHOWN = 3  # of each process; the summary counts all
 PATIENT = 20.0  # seconds until it is said what is waited for
 FILLED = "right if the store fills it at its start"
+UPTIME = "--uptime"
 LIVES = 0.5  # seconds after which a process counts as ready where no hook tells
 
 
@@ -62,6 +63,7 @@ class Store(Harness):
                 self.net.links.base = between(centres, words.latency)
         self.disks = disks_of(words, count) if words.disks not in (None, OWN) else None
         self.clocks = Clocks(words.out, offsets(words, count)) if skews(words) else None
+        self.uptimes = Uptimes(words, count) if words.uptime else None
         self.cuts: list[tuple[str, Cut]] = []  # whose power was cut, and what that left
         self.words, self._machine = words, machine
         self.hooks = Hooks(words, file, self.ledger, machine, self._places())
@@ -112,10 +114,13 @@ class Store(Harness):
             raise Fault(USAGE, why)
         if (what := shapes(self.words)) and self.words.parts:
             raise Fault(USAGE, f"{what} is for a network of this tool's own: hooks only cut")
-        if (what := skews(self.words)) and "kill" in names:
-            raise Fault(USAGE, f"{what} is for processes that run below this tool")
-        if what and library() is None:
+        for what in filter(None, (skews(self.words), UPTIME if self.uptimes else None)):
+            if "kill" in names:
+                raise Fault(USAGE, f"{what} is for processes that run below this tool")
+        if (what := skews(self.words)) and library() is None:
             raise Fault(USAGE, f"{what} needs libfaketime, of Debian's faketime")
+        if self.uptimes and (lacks := lacking_uptimes()):
+            raise Fault(USAGE, f"{UPTIME} needs {lacks}")
         if self.words.net and "cut" in names:
             self.net = Partitions(self.elsewhere, len(self.names))
 
@@ -342,6 +347,7 @@ class Store(Harness):
         deaf = self.words.deaf_disks and self.words.disks != "lossy"  # which is deaf by itself
         within = self.net.within(number) if self.net else []
         within += self.clocks.words(number) if self.clocks else []
+        within += self.uptimes.words(number) if self.uptimes else []
         return within + ([sys.executable, "-I", "-S", str(DEAF)] if deaf else [])
 
     async def clog(self, processes: Sequence[int], is_clogged: bool) -> None:

@@ -32,6 +32,7 @@ complete -c faultyard-nemesis -l damaged-primary -d "A damaged primary keeps its
 complete -c faultyard-nemesis -l net -d "A host for each process, whose cable a Clog pulls"
 complete -c faultyard-nemesis -l latency -x -d "How long each packet takes, as 20+-5 ms"
 complete -c faultyard-nemesis -l skew -x -d "Each clock is off by up to so many seconds"
+complete -c faultyard-nemesis -l uptime -x -d "Each monotonic clock is ahead by up to so many"
 complete -c faultyard-nemesis -l clog -x -a "both out in" -d "What a Clog loses with --net"
 complete -c faultyard-nemesis -l unguarded -d "Do what was ordered, whatever the guard says"
 complete -c faultyard-nemesis -l check-hooks -d "Call each hook on a calm cluster"
