@@ -318,16 +318,21 @@ class Words(unittest.TestCase):
         self.assertEqual(pods.reached(1, ["true"])[3:], ["exec", "-i", "p1", "--", "true"])
 
 
-class Full(unittest.TestCase):
-    @unittest.skipIf(os.geteuid(), "a disk of the test's own needs root")
-    def test_a_kill_needs_no_space(self):
-        """It is done on a full disk, and what was asked for before doesn't start any more."""
+@unittest.skipIf(os.geteuid(), "namespaces of the test's own need root")
+class Alone(unittest.TestCase):
+    def told(self, script, mounts):
+        """What a script prints that has /mnt, where something is mounted, and its processes."""
         alone = ["unshare", "--mount", "--pid", "--fork", "--kill-child", "--mount-proc"]
-        disk = 'mount -t tmpfs -o size=256k full /mnt && mkdir -p /mnt/run/0 && exec "$@"'
-        words = [*alone, "sh", "-c", disk, "sh", sys.executable, "-S", str(HERE / "full.py")]
+        disk = f'{mounts} && mkdir -p /mnt/run && exec "$@"'
+        words = [*alone, "sh", "-c", disk, "sh", sys.executable, "-S", str(HERE / script)]
         env = {"FY_DIR": "/mnt/run", "FY_COUNT": "1", "PYTHONDONTWRITEBYTECODE": "1"}
         env |= {"PATH": os.environ["PATH"], "PYTHONPATH": str(ROOT / "bindings/python/src")}
         ran = subprocess.run(words, env=env, capture_output=True, text=True, timeout=SECONDS)
+        self.assertEqual(ran.returncode, 0, ran.stderr)
+        return ran.stdout.splitlines()
+
+    def test_a_kill_needs_no_space(self):
+        """It is done on a full disk, and what was asked for before doesn't start any more."""
         wanted = [
             "killed 0 running [] ended True",
             "too late 96 running []",
@@ -336,7 +341,22 @@ class Full(unittest.TestCase):
             "without input True",
             "at the end 0 ['filled']",
         ]
-        self.assertEqual(ran.stdout.splitlines(), wanted, ran.stderr)
+        disk = "mount -t tmpfs -o size=256k full /mnt && mkdir -p /mnt/run/0"
+        self.assertEqual(self.told("full.py", disk), wanted)
+
+    def test_a_command_beside_a_process(self):
+        """It runs in the folder there, finds what `start` wrote here, and ends with a kill."""
+        wanted = [
+            "fails True",
+            "before a start []",
+            "sent sent",
+            "here ['early', 'sent']",
+            "there ['early', 'made', 'sent'] made",
+            "as nobody",
+            "killed 0 True False",
+            "too late 96",
+        ]
+        self.assertEqual(self.told("once.py", "mount -t tmpfs here /mnt"), wanted)
 
 
 class Mends(unittest.TestCase):

@@ -307,6 +307,11 @@ def run(*words: object, text: str = "", seconds: float = 60.0) -> str:
     return told
 
 
+def run_at(n: int, *words: object) -> str:
+    """What a command prints that runs where process n does, as `run` has it here."""
+    return str(_on[0].run(n, *words)) if _on else run(*words)
+
+
 @contextmanager
 def running(*words: object) -> Iterator[None]:
     """A command that runs until the block ends. What it prints goes to standard error."""

@@ -4,7 +4,7 @@ from __future__ import annotations
 
 import shlex
 
-from .places import name_of
+from .places import START, name_of
 from .ssh import HERE, Ssh
 
 # The files of a container are a volume of the engine, at the folder's path.
@@ -53,6 +53,19 @@ run --interactive --name "$name" --network host --user "${user:-0}" \\
     --volume "$name:$folder" --workdir "$folder" --entrypoint sh $options "$image" \\
     -c "$within" sh "$@"
 """
+# A command runs within the container, or where that doesn't run in one of its own.
+ONCE = (
+    START
+    + """
+if [ -n "$(engine ps --quiet --filter "name=^$name\\$")" ]; then
+    engine exec --interactive --workdir "$folder" "$name" "$@"
+else
+    [ -z "$user" ] || files chown "$user:" "$folder" || exit 97
+    run --interactive --network host --user "${user:-0}" --volume "$name:$folder" \\
+        --workdir "$folder" --entrypoint sh $options "$image" -c '"$@"' sh "$@"
+fi
+"""
+)
 # Where podman was killed with a tool, its containers end, and stay in its list as if they ran. A
 # run removes those of runs before it; their volumes stay, by which such a run may be resumed.
 ABLE = """
@@ -76,7 +89,7 @@ class Containers(Ssh):
         "power": "a container has no power that could be cut",
         "cut": "a container has the network of its host, which isn't cut",
     }
-    HEAD, HOLD, ABLE = HEAD, HOLD, ABLE
+    HEAD, HOLD, ONCE, ABLE = HEAD, HOLD, ONCE, ABLE
 
     def __init__(
         self,

@@ -15,7 +15,7 @@ import subprocess
 import sys
 import time
 import zlib
-from typing import Any, Callable, ClassVar, Dict, List, Mapping, Sequence, Set
+from typing import Any, Callable, ClassVar, Dict, List, Mapping, Optional, Sequence, Set
 
 from . import DIR, Refused, folder, keep, run, text_of
 
@@ -84,6 +84,12 @@ user=$3
 shift 3
 """
 )
+# A command becomes the user's, to whom the folder goes.
+AS_USER = """
+[ "$(id -u)" = 0 ] || user=
+[ -z "$user" ] || chown "$user:" . || exit 97
+[ -z "$user" ] || set -- setpriv --reuid "$user" --regid "$(id -g "$user")" --init-groups "$@"
+"""
 
 
 class Places:
@@ -121,17 +127,18 @@ runs() { [ -n "$(marked FY_HOLDS)" ]; }
 """
     )
     # Runs a command as a user until it ends, or the input does.
-    HOLD: ClassVar[
-        str
-    ] = """
-[ "$(id -u)" = 0 ] || user=
-[ -z "$user" ] || chown "$user:" . || exit 97
+    HOLD: ClassVar[str] = (
+        AS_USER
+        + """
 exec 3<&0 < /dev/null
 hold="env FY_HELD=$folder setpriv --pdeathsig KILL setsid"
-if unshare --pid --fork --kill-child true 2> /dev/null; then
-    hold="$hold unshare --pid --fork --kill-child"
-fi
-[ -z "$user" ] || set -- setpriv --reuid "$user" --regid "$(id -g "$user")" --init-groups "$@"
+for proc in --mount-proc ""; do  # by which it finds its own processes, where it may have that
+    apart="unshare --pid --fork --kill-child $proc"
+    if $apart true 2> /dev/null; then
+        hold="$hold $apart"
+        break
+    fi
+done
 $hold sh -c '"$@" & wait $!' held "$@" 3<&- &
 process=$!
 { read -r it; signal_all KILL; kill -KILL -$process; } <&3 > /dev/null 2>&1 &
@@ -141,6 +148,9 @@ status=$?
 kill -KILL $! 2> /dev/null
 exit $status
 """
+    )
+    # Runs a command as a user to its end.
+    ONCE: ClassVar[str] = START + AS_USER + '"$@"\n'
     # Prints in one line what a place lacks.
     ABLE: ClassVar[
         str
@@ -153,6 +163,7 @@ done
     def __init__(self, *hosts: str) -> None:
         self.hosts: Sequence[str] = hosts
         self._copies: Set[str] = set()
+        self._starting: Optional[int] = None  # the process that this hook is about to start
 
     def host(self, n: int) -> str:
         """The place of a process."""
@@ -181,8 +192,11 @@ done
             if "setup" in given:
                 given["setup"]()
 
-        made["setup"] = setup
-        made["start"] = lambda n: self.start(n, given["start"](n))
+        def start(n: int) -> List[str]:
+            self._starting = n
+            return self.start(n, given["start"](n))
+
+        made["setup"], made["start"] = setup, start
         return made
 
     def own(self) -> Dict[str, Callable[..., Any]]:
@@ -201,7 +215,8 @@ done
 
     def words(self, n: int, script: str, *words: object) -> List[str]:
         """The local command that has a place run a script."""
-        marks = {START: ["FY_HOLDS"], PUT: ["FY_HOLDS", "FY_HELD"]}.get(script, [])
+        own = ["FY_HOLDS", "FY_HELD"]
+        marks = {START: own[:1], PUT: own, self.ONCE: own}.get(script, [])
         env = [f"{mark}={folder(n)}" for mark in marks]
         text = COMMON + self.head(n) + script + (self.HOLD if script == START else "")
         return self.reached(n, ["env", *env, "sh", "-c", text, "sh", folder(n), *map(str, words)])
@@ -230,6 +245,16 @@ done
         self._put(n, began)
         self.hold_input()
         return self.words(n, START, began, self.user, *command)
+
+    def run(self, n: int, *words: object) -> str:
+        """What a command prints that runs at the place of a process.
+
+        It ends with what is killed there. In `start` it finds what that has written here.
+        """
+        began = time.monotonic_ns()
+        if n == self._starting:
+            self._put(n, began)
+        return self.ask(n, self.ONCE, began, self.user, *words).decode()
 
     def hold_input(self) -> None:
         """Gives this process an input that says nothing, and ends only with whoever has it."""
