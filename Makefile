@@ -178,7 +178,7 @@ try-power: build
 
 ## runs `faultyard-nemesis` on hosts in trouble, as units, in pods, in containers, with other
 ## stores; then redis, etcd and PostgreSQL by ssh, guarded and unguarded with two seeds each, and
-## prints a table; takes twenty minutes, and has to be root
+## prints a table; takes an hour, and has to be root
 try-hosts: build
 	tests/hosts/run bin/faultyard troubles by_units by_pods by_containers by_stores
 	tests/stores/run --ssh bin/faultyard

@@ -1,5 +1,5 @@
-"""etcd in containers of a podman without rights, with its hooks as they are. Runs beside
-tests/hosts/engine."""
+"""etcd and OVSDB in containers of a podman without rights, with their hooks as they are. Runs
+beside tests/hosts/engine."""
 import os
 import re
 import subprocess
@@ -19,7 +19,7 @@ class Containers(Case):
 
     def left(self):
         """What runs, by its processes: podman takes for running what it was killed with."""
-        return those(r"^(\S*/)?etcd |sh -c \nexec 3<&0 ")
+        return those(r"^(\S*/)?(etcd|ovsdb-server) |sh -c \nexec 3<&0 ")
 
     def test_guarded(self):
         orders = [(1, "e1", "RebootAndDelete"), (2, "e2", "Reboot"), (3, "e0", "Clog")]
@@ -28,6 +28,12 @@ class Containers(Case):
         self.assertRegex(told, r"\n([1-9]\d*) acknowledged: \d+ kept, 0 lost")
         self.assertEqual([it["does"] for it in self.events("order")], [it[2] for it in orders])
         self.assertEqual([it["processes"] for it in self.events("killed")], [[1], [2]])
+        self.assertEqual(asked("ps", "--all", "--quiet") + asked("volume", "ls", "--quiet"), [])
+
+    def test_ovsdb(self):
+        """Whose hooks have commands run where a server is, whether that runs or not."""
+        self.of_store("ovsdb", "ovsdb-server")
+        self.emptied("ovsdb", self.on, 15)
         self.assertEqual(asked("ps", "--all", "--quiet") + asked("volume", "ls", "--quiet"), [])
 
     def test_unguarded(self):

@@ -1,5 +1,5 @@
-"""etcd in five pods, with its hooks as they are. The pods are those of the kubectl beside this, and
-no cluster's: machines of tests/hosts/machines."""
+"""etcd and OVSDB in five pods, with their hooks as they are. The pods are those of the kubectl
+beside this, and no cluster's: machines of tests/hosts/machines."""
 import os
 import signal
 
@@ -12,7 +12,7 @@ class Pods(Case):
     on = f"pods:{','.join(HOSTS)}"
 
     def left(self):
-        return those(rf"^(\S*/)?etcd |{self.out}/\d ")
+        return those(rf"^(\S*/)?etcd |{self.out}/\d\b")
 
     def test_guarded(self):
         orders = [(1, "e1", "RebootAndDelete"), (2, "e2", "Reboot"), (3, "e0", "Clog")]
@@ -22,6 +22,11 @@ class Pods(Case):
         self.assertEqual([it["does"] for it in self.events("order")], [it[2] for it in orders])
         self.assertEqual([it["processes"] for it in self.events("killed")], [[1], [2]])
         self.assertEqual(self.files_there(), [])
+
+    def test_ovsdb(self):
+        """Whose hooks have commands run where a server is."""
+        self.of_store("ovsdb", "ovsdb-server")
+        self.emptied("ovsdb", self.on, 15)
 
     def test_unguarded(self):
         words = ("--seconds", 3, "--unguarded", "--replay", self.all_at_once())

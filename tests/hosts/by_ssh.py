@@ -19,6 +19,7 @@ ETCD = [str(ROOT / "examples/etcd/cluster.toml"), str(ROOT / "examples/etcd/hook
 LAB = Path(os.environ.get("LAB", "/"))
 HOSTS = [f"h{n}" for n in range(5)]
 OVER = f"-F {LAB}/ssh_config:{','.join(HOSTS)}"
+NEEDS = ROOT / "tests/tools/needs"
 PATIENT = ("--hook-timeout", 60)  # the tool's own limits are of wall time
 SECONDS = 3600
 POLLS = 3000
@@ -97,10 +98,39 @@ class Case(unittest.TestCase):
 
     def left(self):
         """What runs here or there of a run."""
-        return those(rf"^(\S*/)?etcd |^ssh .*{self.room}|{self.out}/\d ")
+        return those(rf"^(\S*/)?etcd |^ssh .*{self.room}|{self.out}/\d\b")
 
     def assert_nothing_left(self):
         wait_until("the end of all", lambda: not self.left())
+
+    def of_store(self, store, *programs):
+        """The cluster file and the hooks of a store that is here."""
+        needs = subprocess.run([NEEDS, f"{store} elsewhere", *programs], check=False)
+        if needs.returncode == 1:
+            self.skipTest(f"{store} isn't there")
+        self.assertEqual(needs.returncode, 0)
+        return [ROOT / "examples" / store / name for name in ("cluster.toml", "hooks")]
+
+    def kept(self, *words):
+        """What a run tells that keeps all."""
+        told = self.ended(self.begun(*words, "--out", self.out), 0)
+        self.assertRegex(told, r"\n([1-9]\d*) acknowledged: \d+ kept, 0 lost, 0 missing")
+        self.assertEqual([*self.out.glob(".seen*")], [])
+        return told
+
+    def emptied(self, store, on, seconds):
+        """Runs a store whose second process is emptied, and whole again."""
+        files = ROOT / "examples" / store
+        names = [
+            line.split('"')[1]
+            for line in (files / "cluster.toml").open()
+            if "= {" not in line and "processid = " in line
+        ]
+        self.out = self.room / "emptied"
+        given = self.given((3, names[1], "RebootAndDelete"))
+        words = [files / "cluster.toml", files / "hooks", "--on", on, *PATIENT]
+        told = self.kept(*words, "--seconds", seconds, "--replay", given)
+        self.assertEqual([it["process"] for it in self.events("heal")], [1], told)
 
     def events(self, what):
         if not (self.out / "events.jsonl").exists():

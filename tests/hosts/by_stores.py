@@ -1,44 +1,38 @@
-"""The other stores of examples/ by ssh, with their hooks as they are: one that was emptied is whole
-again, or it is said in one line why the hooks don't run elsewhere. Runs beside
-tests/hosts/machines."""
-import subprocess
+"""The other stores of examples/ by ssh, with their hooks as they are: they pass `--check-hooks`,
+one that was emptied is whole again, and a guarded run loses nothing. Runs beside
+tests/hosts/machines.
+"""
+from by_ssh import HOSTS, OVER, PATIENT, Case
 
-from by_ssh import HOSTS, LAB, PATIENT, ROOT, Case
-
-NEEDS = ROOT / "tests/tools/needs"
+SECONDS = 40  # of a guarded run
 
 
 class Stores(Case):
-    def runs(self, store, count, program, seconds=15):
-        """A run of a store whose second process is emptied."""
-        needs = subprocess.run([NEEDS, f"{store} by ssh", *program.split()], check=False)
-        if needs.returncode == 1:
-            self.skipTest(f"{store} isn't there")
-        self.assertEqual(needs.returncode, 0)
-        files = ROOT / "examples" / store
-        names = [
-            line.split('"')[1]
-            for line in (files / "cluster.toml").open()
-            if "= {" not in line and "processid = " in line
-        ]
-        given = self.given((3, names[1], "RebootAndDelete"))
-        words = [files / "cluster.toml", files / "hooks", "--out", self.out]
-        on = ["--on", f"ssh -F {LAB}/ssh_config:{','.join(HOSTS[:count])}"]
-        running = self.begun(*words, *on, "--seconds", seconds, "--replay", given, *PATIENT)
-        told = self.ended(running, 0)
-        self.assertEqual([it["process"] for it in self.events("heal")], [1], told)
-        self.assertRegex(told, r"\n([1-9]\d*) acknowledged: \d+ kept, 0 lost, 0 missing")
-        self.assertEqual([*self.out.glob(".seen*")], [])
-
-    def test_those_that_read_files_of_what_runs(self):
-        """They say so, in one line."""
-        for store, count in (("ovsdb", 5), ("galera", 3), ("rabbitmq", 3), ("zookeeper", 5)):
-            files = ROOT / "examples" / store
-            on = f"ssh -F {LAB}/ssh_config:{','.join(HOSTS[:count])}"
-            words = [files / "cluster.toml", files / "hooks", "--out", self.out, "--on", on]
-            told = self.ended(self.begun(*words, "--seconds", 3), 2)
-            said = "by `here` these hooks read files of what runs, so it runs here"
-            self.assertEqual(told, f"faultyard-nemesis: --on {on}: {said}\n")
+    def runs(self, store, *programs, count=3, seconds=60, pauses="2,5,10"):
+        """Each is killed and emptied once; one is emptied while all write; as the plan has it."""
+        on = f"ssh {OVER.partition(':')[0]}:{','.join(HOSTS[:count])}"
+        words = [*self.of_store(store, *programs), "--on", on, *PATIENT]
+        self.out = self.room / "checked"
+        self.ended(self.begun("--check-hooks", *words, "--out", self.out), 0)
+        self.emptied(store, on, seconds)
+        self.out = self.room / "guarded"
+        more = ("--seconds", SECONDS, "--seed", 1, "--pauses", pauses)
+        print(self.kept(*words, *more))
 
     def test_nats(self):
-        self.runs("nats", 3, "nats-server")
+        self.runs("nats", "nats-server", seconds=15, pauses="1,2,4")
+
+    def test_ovsdb(self):
+        self.runs("ovsdb", "ovsdb-server", count=5, seconds=15, pauses="1,2,4")
+
+    def test_rabbitmq(self):
+        self.runs("rabbitmq", "rabbitmq-server")
+
+    def test_zookeeper(self):
+        self.runs("zookeeper", "zookeeper", count=5, seconds=30, pauses="0,1,2,4")
+
+    def test_galera(self):
+        self.runs("galera", "mariadbd", pauses="10,20,30")
+
+    def test_ceph(self):
+        self.runs("ceph", "ceph-mon", "python3-rados", pauses="2,9,17")

@@ -1,4 +1,4 @@
-"""etcd as units of systemd on five machines, with its hooks as they are. Runs beside
+"""etcd and OVSDB as units of systemd on five machines, with their hooks as they are. Runs beside
 `tests/hosts/machines --systemd`."""
 import subprocess
 
@@ -28,6 +28,11 @@ class Units(Case):
         self.assertEqual([it["does"] for it in self.events("order")], [it[2] for it in orders])
         self.assertEqual([it["processes"] for it in self.events("killed")], [[1], [2]])
         self.assertEqual(self.files_there(), [])
+
+    def test_ovsdb(self):
+        """Whose hooks have commands run where a server is."""
+        self.of_store("ovsdb", "ovsdb-server")
+        self.emptied("ovsdb", self.on, 15)
 
     def test_unguarded(self):
         words = ("--seconds", 3, "--unguarded", "--replay", self.all_at_once())

@@ -7,7 +7,7 @@ from __future__ import annotations
 
 import os
 import re
-from typing import Dict, Tuple
+from typing import Dict, List, Tuple
 
 from . import DIR, HOSTS, NAMES, Refused, port, run
 
@@ -25,13 +25,18 @@ HELD = """Own = {'%s', node()}, {ok, {_, Queue}, _} = ra:local_query(Own, fun(It
     {erlang:system_info(creation), lists:max([0 | New]), Texts}"""
 RECORD = re.compile("(r/[0-9]{9}) ([0-9a-f]{16})")
 _held: Dict[Tuple[int, str], Tuple[str, int, Dict[str, str]]] = {}  # and of which of its lives
-os.environ["ERL_EPMD_PORT"] = str(port(0, 3))
-os.environ["HOME"] = DIR or "/"
+_own = {"ERL_EPMD_PORT": str(port(0, 3)), "HOME": DIR or "/"}
+os.environ.update(_own)
 
 
 def node(n: int) -> str:
     """The name of a process as a node: `NAME@HOST`, a long one."""
     return f"{NAMES[n]}@{HOSTS[n]}"
+
+
+def environment() -> List[str]:
+    """The words for `env` by which a node finds them where it runs elsewhere."""
+    return [f"{name}={text}" for name, text in _own.items()]
 
 
 def options(n: int) -> str:
