@@ -16,9 +16,10 @@ LOOPBACK = "127.0.0.1"
 ANSWERED = "{ok, "
 BRIEF = 70  # characters of a fault, and of what it came of
 # What a node's own member of a quorum queue has applied beyond an index, as its own log tells it.
+# In another order that reads one of its files alone.
 HELD = """Own = {'%s', node()}, {ok, {_, Queue}, _} = ra:local_query(Own, fun(It) -> It end),
     Messages = lqueue:to_list(element(3, Queue)) ++ lqueue:to_list(element(5, Queue)),
-    New = lists:sort([Index || [Index | _] <- Messages, Index > %d]),
+    New = lists:reverse(lists:sort([Index || [Index | _] <- Messages, Index > %d])),
     {Log, _} = ra_log_reader:sparse_read(ra:register_external_log_reader(Own), New, []),
     Contents = [It || {_, _, {_, _, {enqueue, _, _, {_, _, _, It, _, _}}, _}} <- Log],
     Texts = [binary_to_list(iolist_to_binary(Text)) || {_, _, _, _, _, Text} <- Contents],
@@ -51,7 +52,9 @@ def options(n: int) -> str:
 def evaluated(n: int, code: str) -> str:
     """What the last of some expressions comes to on a node; `Refused` where one fails."""
     try:
-        told = run("erl_call", "-name", node(n), "-c", COOKIE, "-e", text=f"{code}.\n", seconds=9)
+        # Of two who ask a node under one name it refuses the second.
+        words = "-h", f"c{os.getpid()}", "-name", node(n), "-c", COOKIE, "-e"
+        told = run("erl_call", *words, text=f"{code}.\n", seconds=9)
     except Refused as fault:
         raise Refused(f"{node(n)} doesn't answer: {fault}") from None
     if not told.startswith(ANSWERED):
