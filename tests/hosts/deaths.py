@@ -210,15 +210,12 @@ class Cables(Lab):
 
 
 class Death(Lab):
-    """One of many runs at once, on hosts of its own."""
+    """One of many runs at once, on hosts of its own. It is no test by itself."""
 
     def __init__(self, turn, room, hosts):
         super().__init__()
         self.turn, self.room, self.hosts, self.out = turn, room, hosts, room / f"death-{turn}"
         self.victim, self.dice = VICTIMS[turn % len(VICTIMS)], random.Random(f"death {turn}")
-
-    def runTest(self):
-        pass
 
     def whole(self):
         """For how long anything of it was left at its ends."""
