@@ -154,7 +154,8 @@ ABOUT = {
     "lossy-net": f"{listed(LOSSES, 100)} % of packets are lost, {listed(DOUBLES, 100)} % doubled, "
     f"and they overtake within {2000 * OVERTAKES:g} ms. {SHAPED}",
     "skew": f"a clock jumps by {listed(JUMPS)} s, or goes {listed(SPEEDS)} times as fast. By "
-    "libfaketime (Debian's `faketime`), for programs that ask glibc, so for none in Go",
+    "libfaketime (Debian's `faketime`), for programs that ask glibc, so none in Go or with "
+    "jemalloc",
 }
 FORMS: Mapping[str, Form] = {
     "slow-disk": Form(draw_slow, DISK, tell_slow, LOSSY, ABOUT["slow-disk"], order_slow),

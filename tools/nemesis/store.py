@@ -43,6 +43,9 @@ CRASHES_SHOWN = 3  # of each process; the summary counts all
 PATIENT = 20.0  # seconds until it is said what is waited for
 FILLED = "right if the store fills it at its start"
 UPTIME = "--uptime"
+# What libfaketime prints below a library that asks for the time before it is there itself.
+SAYS_CLASH = b"libfaketime: Cannot recover from unexpected recursive calls"
+CLASH = "libfaketime clashes with a library of the store's, as with jemalloc"
 LIVES = 0.5  # seconds after which a process counts as ready where no hook tells
 
 
@@ -160,6 +163,8 @@ class Store(Harness):
         began, seconds, is_told = clock(), self.hooks.seconds("join"), False
         while waiting := self.waiting():
             waited, logs = clock() - began, f"the logs in {self.words.out} may say why"
+            if self.clocks and not self.starts and (name := self._clashing()):
+                raise Fault(HOOK, f"{name}'s clock can't be off: {CLASH}, as {name}.log says")
             if waited > seconds:
                 raise Fault(HOOK, f"after {seconds:g} seconds {waiting[0]}; {logs}")
             if waited > PATIENT and not is_told:
@@ -540,6 +545,14 @@ class Store(Harness):
         """Says whose clock can't be off, which runs now."""
         if self.clocks and (why := self.clocks.look(number)):
             self.show(f"{self.names[number]} has this machine's clock: {why}")
+
+    def _clashing(self) -> str | None:
+        """Whose log says that libfaketime can't be loaded with it."""
+        for name in self.names:
+            log = self.words.out / f"{name}.log"
+            if log.exists() and SAYS_CLASH in log.read_bytes():
+                return name
+        return None
 
     def own_clocks(self) -> list[str]:
         """Whose clocks can't be off, as lines of the summary."""
