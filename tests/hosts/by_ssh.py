@@ -58,6 +58,20 @@ def killed(pids):
             pass
 
 
+def sshd_of(host, pattern=r"^sshd: "):
+    """The servers of a machine, and their sessions: by its namespace of processes."""
+    maker = (LAB / host / "pid").read_text().strip()
+    init = Path(f"/proc/{maker}/task/{maker}/children").read_text().split()[0]
+    space, found = os.readlink(f"/proc/{init}/ns/pid"), []
+    for pid in those(pattern):
+        try:
+            if os.readlink(f"/proc/{pid}/ns/pid") == space:
+                found.append(pid)
+        except FileNotFoundError:
+            pass  # it has ended
+    return found
+
+
 class Case(unittest.TestCase):
     on = f"ssh {OVER}"
 
@@ -204,12 +218,19 @@ class Kills(Case):
         given = self.given((30, "e1", "Reboot"))
         running = self.start("--seconds", 30, "--replay", given, *PATIENT)
         wait_until("the beginning", lambda: self.events("ready"))
-        # A master that is gone is made again, over which the next start goes.
-        for pattern in (r"^ssh .* -M ", rf"^ssh .*{self.room}.* h1 ", r"^sshd: root"):
+        victims = {  # a master that is gone is made again, over which the next start goes
+            "masters": lambda: those(rf"^ssh .* -M .*{self.room}/"),
+            "what holds e1": lambda: those(rf"^ssh .*{self.room}.* h1 "),
+            "sessions": lambda: [pid for it in HOSTS for pid in sshd_of(it, r"^sshd: root")],
+        }
+        for name, found in victims.items():
             before = len(self.events("ended"))
-            wait_until(f"what is {pattern}", lambda: those(pattern))
-            killed(those(pattern))
-            wait_until(f"the end of {pattern}", lambda: len(self.events("ended")) > before)
+
+            def is_over():  # what is found first may hold nothing
+                killed(found())
+                return len(self.events("ended")) > before
+
+            wait_until(f"the end of {name}", is_over)
         told = self.ended(running, 0)
         self.assertRegex(told, r"\n([1-9]\d*) acknowledged: \d+ kept, 0 lost")
 

@@ -17,7 +17,7 @@ from concurrent.futures import ThreadPoolExecutor
 from pathlib import Path
 from queue import SimpleQueue
 
-from by_ssh import HERE, LAB, Case, killed, those
+from by_ssh import HERE, LAB, Case, killed, sshd_of, those
 from rows import NEMESIS
 
 DEATHS, FIRST, AT_ONCE = (
@@ -59,20 +59,6 @@ def hears(receiver, sender):
         ["nsenter", f"--net=/proc/{pid}/ns/net", *ask], stderr=subprocess.DEVNULL, check=False
     )
     return ran.returncode == 1
-
-
-def sshd_of(host):
-    """The servers of a machine, and their sessions: by its namespace of processes."""
-    maker = (LAB / host / "pid").read_text().strip()
-    init = Path(f"/proc/{maker}/task/{maker}/children").read_text().split()[0]
-    space, found = os.readlink(f"/proc/{init}/ns/pid"), []
-    for pid in those(r"^sshd: "):
-        try:
-            if os.readlink(f"/proc/{pid}/ns/pid") == space:
-                found.append(pid)
-        except FileNotFoundError:
-            pass  # it has ended
-    return found
 
 
 class Lab(Case):
