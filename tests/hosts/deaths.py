@@ -14,7 +14,6 @@ import time
 import traceback
 import unittest
 from concurrent.futures import ThreadPoolExecutor
-from pathlib import Path
 from queue import SimpleQueue
 
 from by_ssh import HERE, LAB, Case, killed, sshd_of, those
