@@ -982,8 +982,10 @@ class ErlangNodes(unittest.TestCase):
     def test_what_expressions_come_to_is_told(self):
         status, told, said, heard = self.call("read", told="{ok, {[a, 1], <<>>}}")
         self.assertEqual((status, told, said), (0, "{[a, 1], <<>>}", ""))
-        words = "erl_call -name b@10.0.0.2 -c faultyard -e"
-        self.assertEqual(heard, [words, "1 + 1. epmd at 20003"])
+        self.assertRegex(heard[0], r"^erl_call -h c\d+ -name b@10\.0\.0\.2 -c faultyard -e$")
+        self.assertEqual(heard[1:], ["1 + 1. epmd at 20003"])
+        again = self.call("read", told="{ok, 1}")[3]
+        self.assertNotEqual(again[0], heard[0], "who asks has a name of its own")
 
     def test_an_expression_that_fails_is_refused(self):
         why = '{{badmatch,false},\\\\n  [{erl_eval,expr}]}}"}'
