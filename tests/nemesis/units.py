@@ -560,7 +560,7 @@ class Waits(unittest.TestCase):
         it.names, it.up, it.gone, it.emptied, it.joined = ["p0", "p1"], {0}, set(), set(), {}
         it.words, self.told = unittest.mock.Mock(out="OUT"), []
         it._show, it._elected, it._ended, it._joining = self.told.append, 0, {}, 0
-        it.damages = undamaged()
+        it.damages, it.clocks = undamaged(), None
 
     def now(self):
         return asyncio.get_running_loop().time() - clock.BEGIN
