@@ -3,6 +3,7 @@
 Files keep their place in the repository, so that each link leads where it leads there. Anchors are
 those of GitHub, a list in a list may be indented by two to four spaces, behind the language of a
 block of code may stand words for its tests, and a link that is named by its file gets its title.
+The search ranks pages that explain a word before tables that repeat it.
 """
 
 # Debian's mkdocs and markdown have no types.
@@ -10,6 +11,7 @@ block of code may stand words for its tests, and a link that is named by its fil
 
 from __future__ import annotations
 
+import json
 import re
 import subprocess
 from collections.abc import Iterator
@@ -30,6 +32,20 @@ LINK = re.compile(r"\]\((?![a-z]+:)([^)#\s]+)")
 NAMED = re.compile(r"\[([A-Z]+)(?:\.md)?\](\((?![a-z]+:)([^)#\s]*?\1\.md)(?:#[^)\s]*)?\))")
 # The first line of a block of code, as "rust,no_run" has it for rustdoc.
 FENCE = re.compile(r"(?m)^( *```\w+)[, ][^`\n]*$")
+
+# How much it counts for the search that a word stands on a page: by the page, else by its tab.
+BOOSTS = {
+    "docs/GLOSSARY.md": 3.0,  # says what the word means
+    "CHANGELOG.md": 0.3,  # names all that there is
+    # References.
+    "docs/FORMATS.md": 0.7,
+    "docs/LIBRARY.md": 0.7,
+    # Tables made from the source. A title counts a thousandfold, so their names are found.
+    "docs/CONTRACTS.md": 0.01,
+    "docs/DEFINITIONS.md": 0.01,
+}
+BOOSTS_OF_TABS = {"Use": 1.0, "Inside": 0.3, "Stores and security": 0.5}
+BESIDE_NAVIGATION = 0.1
 
 
 class LongNumbers(Preprocessor):
@@ -123,3 +139,26 @@ def on_files(files: Files, config: Any) -> Files:
     is_folder = config["use_directory_urls"]
     ours = [File(it, str(ROOT), config["site_dir"], is_folder) for it in found]
     return Files(theme + ours)
+
+
+def boosts(config: Any) -> dict[str, float]:
+    """How much the search boosts each page of the navigation, by its address on the site."""
+    words = str(ROOT), config["site_dir"], config["use_directory_urls"]
+    tabs = [tab for part in config["nav"] for tab in part.items()]
+    return {
+        File(page, *words).url: BOOSTS.get(page, BOOSTS_OF_TABS[tab])
+        for tab, below in tabs
+        for page, _ in titles_of(below)
+    }
+
+
+def on_post_build(config: Any) -> None:
+    """Writes the boost of each page into the index of the search, and has its worker use them."""
+    site, of_pages = Path(config["site_dir"]), boosts(config)
+    index = site / "search/search_index.json"
+    told = json.loads(index.read_text())
+    for entry in told["docs"]:
+        entry["boost"] = of_pages.get(entry["location"].partition("#")[0], BESIDE_NAVIGATION)
+    index.write_text(json.dumps(told, separators=(",", ":")))
+    (worker,) = (site / "assets/javascripts/workers").glob("search.*.js")
+    worker.write_text(f"{worker.read_text()}\n{(ROOT / 'tools/site/search.js').read_text()}")
