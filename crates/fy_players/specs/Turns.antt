@@ -1,5 +1,5 @@
 -- turns of actors
-use Rattle.std.specs.Prelude.{◌≡◌, ℕ, ◌/◌, ◌==◌, List, if◌then◌else◌}
+use Rattle.std.specs.Prelude.{◌≡◌, ◌⊎◌, ℕ, ◌/◌, ◌==◌, List, if◌then◌else◌}
 use Rattle.rand_chacha.specs.ChaCha.{ChaCha}
 use Rattle.fy_locality.specs.declared.locality.Locality.{Locality}
 use Rattle.fy_acts.specs.declared.act.Act.{Act}
@@ -86,6 +86,13 @@ pub record TakesTurn (was now : Player × Execution) : Type 0 where
     draws = (words_of was.0.draws).1;
   }
   pub execution : now.1 ≡ entered was.1 (speaker_now was.0 was.1) made.0
+
+-- a turn that no memory is left for: the cluster is as it was, or the act of this turn is in
+abbrev pub EndsTurn : Player → (was now : Execution) → Type 0
+EndsTurn player was now =
+    (now ≡ was)
+    ⊎ ((made : Act × Note) × Does was (part_now player was) (words_now player) made
+    × (now ≡ entered was (speaker_now player was) made.0))
 
 -- ---- seen from a simulation
 

@@ -1,6 +1,7 @@
 //! Who plays an actor, by its role.
-ghost use Rattle.std.specs.Prelude.{◌≡◌, IfOk, OnOk};
-ghost use Rattle.fy_players.specs.Turns.{part_of, player_of, part_before, Does, own_or_none, speaker, part_after, TakesTurn};
+ghost use Rattle.std.specs.Prelude.{◌≡◌, ◌≤◌, ◌↔◌, length, Err, IfOk, OnOk, OnErr};
+ghost use Rattle.fy_cluster.specs.declared.fault.Fault.TheVariants.{JournalFull};
+ghost use Rattle.fy_players.specs.Turns.{part_of, player_of, part_before, Does, own_or_none, speaker, part_after, TakesTurn, EndsTurn};
 
 use crate::draws::{Draws, Words};
 use crate::faults::{FaultPlayer, Plan};
@@ -145,10 +146,18 @@ impl Player {
     ///
     /// # Errors
     ///
-    /// `JournalFull` where the journal is at its limit; `NoMemory`.
+    /// In this order: `JournalFull` where the journal is at its limit, and the cluster is unchanged;
+    /// `NoMemory`, and the cluster is unchanged or has the act of this turn.
     pub fn turn(&mut self, cluster: &mut Cluster) -> Result<(), Fault>
-        ensures { OnOk result (TakesTurn (self.old, cluster.old) (self.new, cluster.new)) }
+        ensures full { (cluster.old.setup.limit ≤ length cluster.old.journal)
+            ↔ (result ≡ Err JournalFull) }
+        ensures kept { result ≡ Err JournalFull → cluster.new ≡ cluster.old }
+        ensures taken { OnOk result (TakesTurn (self.old, cluster.old) (self.new, cluster.new)) }
+        ensures ended { OnErr result (EndsTurn self.old cluster.old cluster.new) }
     {
+        if cluster.is_full() {
+            return Err(Fault::JournalFull);
+        }
         let words = self.draws.words();
         self.part.ready(cluster.config().map(), words)?;
         let (act, note) = self.part.next(cluster, words)?;
