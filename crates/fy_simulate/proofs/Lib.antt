@@ -1,3 +1,4 @@
 pub mod Opening
 pub mod Ordered
+pub mod Same
 pub mod Turning

@@ -2,6 +2,7 @@
 //! that is drawn from a seed, and the audit of what came of it goes out.
 #![tactic(auto)]
 
+pub mod laws;
 mod simulate;
 
 pub use simulate::run_simulate;
