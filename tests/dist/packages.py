@@ -20,7 +20,7 @@ PACKAGE = f"faultyard_{version()}_amd64.deb"
 SHARED = f"libfaultyard.so.{version()}"
 
 # What a user of the archive looks for; release/layout isn't asked.
-COMMANDS = ("judge", "run", "check", "swarm", "simulate", "guard", "show", "bears")
+COMMANDS = ("judge", "run", "check", "swarm", "simulate", "guard", "show", "bears", "config")
 TOOLS = ("nemesis", "serve", "lossy", "config-check", "sweep", "shrink")
 WANTED = [
     "bin/faultyard",

@@ -5,6 +5,7 @@ import json
 import os
 import shutil
 import signal
+import subprocess
 import sys
 import tempfile
 from collections.abc import Callable, Coroutine, Iterator, Sequence
@@ -17,9 +18,9 @@ from faultyard import ConfigRefused, FaultyardError, Guard, GuardEnded, HistoryR
 from faultyard import InvalidAct, Kind
 from faultyard import NotFound
 from faultyard.plans import PLANS
+from faultyard.programs import find_program
 from faultyard.verdicts import Verdict
 from command_line import Parser
-from config_check.main import explain
 from keeper import adopt_orphans, end_children
 
 from . import alone, disturbances, links
@@ -367,9 +368,16 @@ def ended(
         if status == USAGE and not words.resume:
             shutil.rmtree(words.out)
         print(f"faultyard-nemesis: {why}", file=sys.stderr)
-        if isinstance(fault, ConfigRefused) and (more := explain(words.config)):
+        if isinstance(fault, ConfigRefused) and (more := explained(words.config)):
             print(more, file=sys.stderr)
         return int(status)
+
+
+def explained(config: Path) -> str:
+    """Where a refused cluster file is at fault: what the program says below its fault line."""
+    words = [find_program(), "config", str(config)]
+    ran = subprocess.run(words, stdin=subprocess.DEVNULL, capture_output=True, check=False)
+    return ran.stderr.decode(errors="replace").partition("\n")[2].rstrip("\n")
 
 
 def as_it_ended(folder: Path) -> int | None:

@@ -49,7 +49,7 @@ plain_is_local c plain = by (is_empty (out-Command c).groups.items) (out-Command
 abbrev TakesConfig : Text → Type 0
 TakesConfig name =
     (name ≡ codes "run")
-    ⊎ ((name ≡ codes "check") ⊎ ((name ≡ codes "swarm") ⊎ ((name ≡ codes "simulate") ⊎ ((name ≡ codes "guard") ⊎ ((name ≡ codes "show") ⊎ ((name ≡ codes "bears") ⊎ (name ≡ codes "verdict")))))))
+    ⊎ ((name ≡ codes "check") ⊎ ((name ≡ codes "swarm") ⊎ ((name ≡ codes "simulate") ⊎ ((name ≡ codes "guard") ⊎ ((name ≡ codes "show") ⊎ ((name ≡ codes "bears") ⊎ ((name ≡ codes "verdict") ⊎ (name ≡ codes "config"))))))))
 
 -- the subcommand takes a seed
 abbrev pub TakesSeed : Text → Type 0
@@ -179,14 +179,20 @@ known_task s words known other none =
         λ audit. absurd (no_audit s.name (codes "bears") (ap (λ t. t.name) bears) (λ e. omega arith) audit),
       )
       | inr (inr (inr (inr (inr (inr (inr (inr (inl verdict)))))))) ↦ inr (
-        inr (inr (inr (inr (inr (inr (inr (ap (λ t. t.name) verdict))))))),
+        inr (inr (inr (inr (inr (inr (inr (inl (ap (λ t. t.name) verdict)))))))),
         config_given s _ words verdict ((refl, refl, refl), ((refl, refl, refl), ((refl, refl, refl), ((refl, refl, refl), tt)))) (inl (refl, refl)) refl none,
         λ seed. absurd (no_seed s.name (codes "verdict") (ap (λ t. t.name) verdict) (λ e. omega arith) seed),
         λ is. audit_given s _ words verdict ((refl, refl, refl), ((refl, refl, refl), ((refl, refl, refl), ((refl, refl, refl), tt)))) (inr (inl (refl, refl))) refl none,
       )
       | inr (inr (inr (inr (inr (inr (inr (inr (inr (inl linear))))))))) ↦ inl (inr (ap (λ t. t.name) linear))
-      | inr (inr (inr (inr (inr (inr (inr (inr (inr (inr (inl help)))))))))) ↦ absurd (other (ap (λ t. t.name) help) (ap (λ t. t.aliases) help))
-      | inr (inr (inr (inr (inr (inr (inr (inr (inr (inr (inr none)))))))))) ↦ absurd none
+      | inr (inr (inr (inr (inr (inr (inr (inr (inr (inr (inl config)))))))))) ↦ inr (
+        inr (inr (inr (inr (inr (inr (inr (inr (ap (λ t. t.name) config)))))))),
+        config_given s _ words config ((refl, refl, refl), ((refl, refl, refl), tt)) (inl (refl, refl)) refl none,
+        λ seed. absurd (no_seed s.name (codes "config") (ap (λ t. t.name) config) (λ e. omega arith) seed),
+        λ audit. absurd (no_audit s.name (codes "config") (ap (λ t. t.name) config) (λ e. omega arith) audit),
+      )
+      | inr (inr (inr (inr (inr (inr (inr (inr (inr (inr (inr (inl help))))))))))) ↦ absurd (other (ap (λ t. t.name) help) (ap (λ t. t.aliases) help))
+      | inr (inr (inr (inr (inr (inr (inr (inr (inr (inr (inr (inr none))))))))))) ↦ absurd none
     ]
 
 meets_task : (words : List Text) → fault_of faultyard_command words ≡ [] → IsSomeAnd (subcommand_of faultyard_command words) IsTask

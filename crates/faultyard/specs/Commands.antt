@@ -6,7 +6,7 @@ use Rattle.clap.specs.Words.{new_rule, with_rule, with_subcommand}
 use Rattle.clap.specs.declared.builder.action.ArgAction.TheVariants.{Set, SetTrue}
 use Rattle.clap.specs.declared.builder.value_parser.ValueParser.TheVariants.{Unsigned}
 use Rattle.faultyard.specs.declared.task.Task.{Task}
-use Rattle.faultyard.specs.declared.task.Task.TheVariants.{Judge, Run, Check, Swarm, Simulate, Guard, Show, Bears, Verdict, Linear}
+use Rattle.faultyard.specs.declared.task.Task.TheVariants.{Judge, Run, Check, Swarm, Simulate, Guard, Show, Bears, Verdict, Linear, Config}
 use Rattle.fy_players.specs.declared.faults.Plan.{Plan}
 use Rattle.fy_players.specs.declared.faults.Plan.TheVariants.{Mixed, Attrition, Swizzle, Rolling}
 use Rattle.fy_tolerance.specs.declared.reports.Form.{Form}
@@ -160,10 +160,15 @@ verdict_command =
 abbrev pub linear_command : App
 linear_command = new_app (codes "linear")
 
+-- the subcommand `config`, which takes a cluster file
+abbrev pub config_command : App
+config_command = with_rule (new_app (codes "config")) config_rule
+
 -- the command line of `faultyard`
 abbrev pub faultyard_command : App
 faultyard_command =
     with_subcommand
+    (with_subcommand
     (with_subcommand
     (with_subcommand
     (with_subcommand
@@ -179,7 +184,8 @@ faultyard_command =
     show_command.top)
     bears_command.top)
     verdict_command.top)
-    linear_command.top
+    linear_command.top)
+    config_command.top
 
 -- the text of a seed: a whole number of 64 bits
 abbrev pub IsSeed : Text → Type 0
@@ -244,6 +250,8 @@ StandsFor met (Verdict config audit fresh) =
     × (first_of (codes "audit") met.1 ≡ Some audit.now)
     × IsSetOf (first_of (codes "fresh") met.1) fresh
 StandsFor met Linear = met.0 ≡ codes "linear"
+StandsFor met (Config config) =
+    (met.0 ≡ codes "config") × (first_of (codes "CONFIG") met.1 ≡ Some config.now)
 
 -- the task is the one that the matches' subcommand stands for
 abbrev pub IsTaskOf : Option (Text × List Row) → Task → Type 0

@@ -1,5 +1,5 @@
 -- the statuses that the program exits with
-use Rattle.std.specs.Prelude.{◌≡◌, ◌⊎◌, ℕ, Bool, true, false, Result, Ok, Err, if◌then◌else◌}
+use Rattle.std.specs.Prelude.{◌≡◌, ◌⊎◌, ℕ, Bool, true, false, Unit, Result, Ok, Err, if◌then◌else◌}
 use Rattle.clap.specs.declared.error.kind.ErrorKind.{ErrorKind}
 use Rattle.clap.specs.declared.error.kind.ErrorKind.TheVariants.{OutOfMemory, DisplayHelp, DisplayVersion}
 use Rattle.fy_streams.specs.Stops.{stop_status}
@@ -7,6 +7,7 @@ use Rattle.fy_streams.specs.declared.stop.Stop.{Stop}
 use Rattle.fy_streams.specs.declared.stop.Stop.TheVariants.{Write, NoMemory}
 use Rattle.fy_histories.specs.Stops.{histories_status}
 use Rattle.fy_histories.specs.declared.stop.HistoriesStop.{HistoriesStop}
+use Rattle.fy_where.specs.declared.config.Refusal.{Refusal}
 use Rattle.fy_verdict.specs.declared.engine.Outcome.{Outcome}
 use Rattle.fy_verdict.specs.declared.engine.Outcome.TheVariants.{NotLegal, Lost, Wrong, Missing, Unreadable, Stale, Kept}
 
@@ -38,6 +39,16 @@ abbrev pub keys_status : Result Bool HistoriesStop → ℕ
 keys_status (Ok true) = 0
 keys_status (Ok false) = 10
 keys_status (Err stop) = histories_status stop
+
+-- the status of `config`
+abbrev pub told_status : Result Unit Refusal → ℕ
+told_status (Ok done) = 0
+told_status (Err refusal) = stop_status refusal.stop
+
+-- the status once help or the version was printed
+abbrev pub printed_status : {E : Type 0} → Result Unit E → ℕ
+printed_status (Ok done) = 0
+printed_status (Err fault) = stop_status Write
 
 -- the status of words that name no task: help and the version are written, or the writer failed;
 -- an allocation failed; or the words are wrong

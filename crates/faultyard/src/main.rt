@@ -6,10 +6,12 @@ ghost use Rattle.std.specs.Process.{exit_status};
 ghost use Rattle.fy_streams.specs.Stops.{stop_status, IsConfigStop};
 ghost use Rattle.clap.specs.Values.{kind_of};
 ghost use Rattle.fy_histories.specs.Stops.{histories_status};
-ghost use Rattle.faultyard.specs.Statuses.{done_status, outcome_status, judged_status, keys_status, IsAnsweredStatus, IsUnreadStatus};
+ghost use Rattle.faultyard.specs.Statuses.{done_status, outcome_status, judged_status, keys_status, told_status, printed_status, IsAnsweredStatus, IsUnreadStatus};
 
+mod explain;
 mod task;
 
+use explain::explain;
 use fy_audit::AuditFault;
 use fy_bears::{run_bears, run_bears_after};
 use fy_check::run_check;
@@ -27,9 +29,12 @@ use fy_streams::{Stop, load_config, write_stop};
 use fy_swarm::run_swarm;
 use fy_tolerance::Form;
 use fy_verdict::{Outcome, run_verdict};
+use fy_where::{Refusal, run_config};
 use std::fs::File;
-use std::io::{BufReader, ErrorKind, Seek};
+use std::io::{self, BufReader, ErrorKind, Seek};
 use std::process::ExitCode;
+use std::sync::Wait;
+use std::thread::Threads;
 use std::{env, fs, slice};
 use task::{Task, read_task};
 
@@ -72,45 +77,53 @@ fn main(rt: HostRuntime) -> ExitCode {
         Ok(words) => words,
         Err(status) => return status,
     };
-    let done = match read_task(rt.alloc(), words.as_slice()) {
-        Ok(Task::Judge) => judge_input(&rt),
-        Ok(Task::Run(path)) => run_file(&rt, path),
-        Ok(Task::Check(path)) => check_file(&rt, path),
-        Ok(Task::Simulate(path, seed, acts, Some(plan))) => {
-            simulate_file(&rt, path, seed, acts, plan)
-        }
-        Ok(Task::Simulate(_, _, _, None)) => return unplanned(&rt),
-        Ok(Task::Guard(path, None, questions)) => guard_file(&rt, path, questions),
-        Ok(Task::Guard(path, Some(after), questions)) => {
-            return guard_after(&rt, path, after, questions);
-        }
-        Ok(Task::Show(path, times)) => show_file(&rt, path, times),
-        Ok(Task::Bears(path, form, after, None)) => bears_file(&rt, path, form, after, &[]),
-        Ok(Task::Bears(path, form, after, Some(elections))) => {
-            return bears_elections(&rt, path, form, after, elections);
-        }
-        Ok(Task::Verdict(path, audit, fresh)) => {
-            return judged(&rt, verdict_file(&rt, path, audit), fresh);
-        }
-        Ok(Task::Linear) => return judged_keys(&rt, linear_input(&rt)),
+    match read_task(rt.alloc(), words.as_slice()) {
         // Threads are main's to give.
-        Ok(Task::Swarm(path, seed)) => match open_config(&rt, path) {
-            Ok(config) => run_swarm(&rt, rt.alloc(), &config, seed, &mut rt.stdout()),
-            Err(stop) => Err(stop),
-        },
-        Err(error) => return answered(&rt, &error),
-    };
-    ended(&rt, done)
+        Ok(task) => carry_out(&rt, &rt, task),
+        Err(error) => answered(&rt, &error),
+    }
 }
 
-/// The status that a command ends with. Where it stopped, its fault line is written.
-fn ended(rt: &HostRuntime, done: Result<bool, Stop>) -> ExitCode
+/// Carries out a task, and gives the status to end with.
+fn carry_out<R: Threads + Wait + Sync>(rt: &HostRuntime, threads: &R, task: Task) -> ExitCode {
+    let files = task.files();
+    let done = match task {
+        Task::Judge => judge_input(rt),
+        Task::Run(path) => run_file(rt, path),
+        Task::Check(path) => check_file(rt, path),
+        Task::Simulate(path, seed, acts, Some(plan)) => simulate_file(rt, path, seed, acts, plan),
+        Task::Simulate(_, _, _, None) => return unplanned(rt),
+        Task::Guard(path, None, questions) => guard_file(rt, path, questions),
+        Task::Guard(path, Some(after), questions) => {
+            return guard_after(rt, path, after, questions);
+        }
+        Task::Show(path, times) => show_file(rt, path, times),
+        Task::Bears(path, form, after, None) => bears_file(rt, path, form, after, &[]),
+        Task::Bears(path, form, after, Some(elections)) => {
+            return bears_elections(rt, path, form, after, elections);
+        }
+        Task::Verdict(path, audit, fresh) => {
+            return judged(rt, &files, verdict_file(rt, path, audit), fresh);
+        }
+        Task::Linear => return judged_keys(rt, linear_input(rt)),
+        Task::Config(path) => return told_config(rt, &files, config_file(rt, path)),
+        Task::Swarm(path, seed) => swarm_file(rt, threads, path, seed),
+    };
+    ended(rt, &files, done)
+}
+
+/// The status that a command on these files ends with. Where it stopped, its fault line is written.
+fn ended(rt: &HostRuntime, files: &[Option<&str>], done: Result<bool, Stop>) -> ExitCode
     ensures { exit_status result ≡ done_status done }
 {
     match done {
         Ok(true) => ExitCode::SUCCESS,
         Ok(false) => ExitCode::from(REFUTED),
-        Err(stop) => stopped(rt, stop),
+        Err(stop) => {
+            let status = stopped(rt, stop);
+            explain(rt, files, stop);
+            status
+        }
     }
 }
 
@@ -123,6 +136,17 @@ fn judge_input(rt: &HostRuntime) -> Result<bool, Stop> {
 fn run_file(rt: &HostRuntime, path: &str) -> Result<bool, Stop> {
     let config = open_config(rt, path)?;
     run_script(rt.alloc(), &config, &mut rt.stdin(), &mut rt.stdout())
+}
+
+/// Lets the actors of the cluster of a file loose at once, each by a plan drawn from a seed.
+fn swarm_file<R: Threads + Wait + Sync>(
+    rt: &HostRuntime,
+    threads: &R,
+    path: &str,
+    seed: u64,
+) -> Result<bool, Stop> {
+    let config = open_config(rt, path)?;
+    run_swarm(threads, rt.alloc(), &config, seed, &mut rt.stdout())
 }
 
 /// Lets the actors of the cluster of a file take turns, as a seed says.
@@ -184,7 +208,8 @@ fn bears_elections(
     match read_policy(rt.alloc(), elections) {
         Ok(policy) => {
             let policies = slice::from_ref(&policy);
-            ended(rt, bears_file(rt, path, form, after, policies))
+            let files = [Some(path), after];
+            ended(rt, &files, bears_file(rt, path, form, after, policies))
         }
         Err(PolicyFault::NoMemory) => stopped(rt, Stop::NoMemory),
         Err(_) => unread_policy(rt),
@@ -206,9 +231,10 @@ fn guard_file(rt: &HostRuntime, path: &str, questions: bool) -> Result<bool, Sto
 
 /// Answers that script from the end of the audit in a file on, and gives the status to end with.
 fn guard_after(rt: &HostRuntime, path: &str, after: &str, questions: bool) -> ExitCode {
+    let files = [Some(path), Some(after)];
     let config = match open_config(rt, path) {
         Ok(config) => config,
-        Err(stop) => return stopped(rt, stop),
+        Err(stop) => return ended(rt, &files, Err(stop)),
     };
     let alloc = rt.alloc();
     let Ok(mut lines) = BufReader::new(alloc, rt.stdin()) else {
@@ -216,7 +242,7 @@ fn guard_after(rt: &HostRuntime, path: &str, after: &str, questions: bool) -> Ex
     };
     let mut audit = match open_file(rt, after) {
         Ok(audit) => audit,
-        Err(stop) => return stopped(rt, stop),
+        Err(stop) => return ended(rt, &files, Err(stop)),
     };
     // What is written may stand behind the audit, so what is found of it goes elsewhere.
     let (mut output, mut found) = (rt.stdout(), rt.stderr());
@@ -229,15 +255,20 @@ fn guard_after(rt: &HostRuntime, path: &str, after: &str, questions: bool) -> Ex
         &mut output,
         &mut found,
     );
-    ended_after(rt, done, &mut audit)
+    ended_after(rt, &files, done, &mut audit)
 }
 
 /// The status that a guard behind an audit ends with. Where half a last line of the audit stopped
 /// it, a second line says how many bytes are whole.
-fn ended_after(rt: &HostRuntime, done: Result<bool, Stop>, audit: &mut File) -> ExitCode
+fn ended_after(
+    rt: &HostRuntime,
+    files: &[Option<&str>],
+    done: Result<bool, Stop>,
+    audit: &mut File,
+) -> ExitCode
     ensures { exit_status result ≡ done_status done }
 {
-    let status = ended(rt, done);
+    let status = ended(rt, files, done);
     if let Err(
         Stop::Audit {
             fault: AuditFault::Line { number, .. },
@@ -281,6 +312,32 @@ fn linear_input(rt: &HostRuntime) -> Result<bool, HistoriesStop> {
     run_linear(alloc, &fy_linear::Jsonl, &mut lines, &mut rt.stdout())
 }
 
+/// Says how much is in a cluster file, or where its fault lies and what was expected there.
+fn config_file(rt: &HostRuntime, path: &str) -> Result<(), Refusal> {
+    let alloc = rt.alloc();
+    match open_file(rt, path) {
+        Ok(mut file) => run_config(alloc, path, &mut file, &mut rt.stdout()),
+        Err(stop) => Err(Refusal::bare(alloc, stop)),
+    }
+}
+
+/// The status that `config` ends with. Where it stopped, its fault line is written, and below it
+/// where the fault lies and what was expected there.
+fn told_config(rt: &HostRuntime, files: &[Option<&str>], done: Result<(), Refusal>) -> ExitCode
+    ensures { exit_status result ≡ told_status done }
+{
+    let Err(refusal) = done else {
+        return ExitCode::SUCCESS;
+    };
+    let status = stopped(rt, refusal.stop);
+    let why = refusal.why.as_str();
+    let _ = eprint!(rt; "{why}");
+    if refusal.stop == Stop::Read {
+        explain(rt, files, Stop::Read);
+    }
+    status
+}
+
 /// The status for what became of the records of a history, where a record may be stale or not.
 fn outcome_status(outcome: Outcome, fresh: bool) -> u8
     ensures { result ≡ outcome_status fresh outcome }
@@ -298,12 +355,23 @@ fn outcome_status(outcome: Outcome, fresh: bool) -> u8
 }
 
 /// The status that `verdict` ends with. Where it stopped, its fault line is written.
-fn judged(rt: &HostRuntime, done: Result<Outcome, HistoriesStop>, fresh: bool) -> ExitCode
+fn judged(
+    rt: &HostRuntime,
+    files: &[Option<&str>],
+    done: Result<Outcome, HistoriesStop>,
+    fresh: bool,
+) -> ExitCode
     ensures { exit_status result ≡ judged_status fresh done }
 {
     match done {
         Ok(outcome) => ExitCode::from(outcome_status(outcome, fresh)),
-        Err(stop) => stopped_judging(rt, stop),
+        Err(stop) => {
+            let status = stopped_judging(rt, stop);
+            if let HistoriesStop::Other(stop) = stop {
+                explain(rt, files, stop);
+            }
+            status
+        }
     }
 }
 
@@ -389,15 +457,22 @@ fn answered(rt: &HostRuntime, error: &clap::Error) -> ExitCode
     match error.kind() {
         clap::error::ErrorKind::OutOfMemory => stopped(rt, Stop::NoMemory),
         clap::error::ErrorKind::DisplayHelp | clap::error::ErrorKind::DisplayVersion => {
-            match error.print(rt) {
-                Ok(()) => ExitCode::SUCCESS,
-                Err(_) => stopped(rt, Stop::Write),
-            }
+            printed(rt, error.print(rt))
         }
         _ => {
             let _ = error.print(rt);
             ExitCode::from(USAGE)
         }
+    }
+}
+
+/// The status once help or the version was printed, as far as standard output took it.
+fn printed(rt: &HostRuntime, done: io::Result<()>) -> ExitCode
+    ensures { exit_status result ≡ printed_status done }
+{
+    match done {
+        Ok(()) => ExitCode::SUCCESS,
+        Err(_) => stopped(rt, Stop::Write),
     }
 }
 

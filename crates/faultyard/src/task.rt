@@ -10,7 +10,7 @@ ghost use Rattle.faultyard.specs.Commands.{config_rule, run_command, check_comma
 ghost use Rattle.faultyard.specs.Commands.{seed_rule, swarm_command, guard_command, show_command, IsSeed, seed_in};
 ghost use Rattle.faultyard.specs.Commands.{acts_rule, plan_rule, simulate_command, IsActsOf, IsPlanOf};
 ghost use Rattle.faultyard.specs.Commands.{times_rule, json_rule, after_rule, elections_rule, questions_rule, bears_command, IsFormOf};
-ghost use Rattle.faultyard.specs.Commands.{audit_rule, fresh_rule, verdict_command, linear_command, IsSetOf};
+ghost use Rattle.faultyard.specs.Commands.{audit_rule, fresh_rule, verdict_command, linear_command, config_command, IsSetOf};
 
 use clap::{Arg, ArgAction, ArgMatches, Command, value_parser};
 use fy_players::Plan;
@@ -52,7 +52,8 @@ const EXAMPLES: &str = with_statuses!(
   faultyard show examples/c6.toml < examples/bad-day.audit > bad-day.svg
   faultyard bears examples/c6.toml
   faultyard verdict examples/c6.toml --audit examples/two-zones.audit < examples/lost.history
-  faultyard linear < examples/register.history"
+  faultyard linear < examples/register.history
+  faultyard config examples/c6.toml"
 );
 
 /// What the program is asked to do.
@@ -88,6 +89,28 @@ pub enum Task<'a> {
     Verdict(&'a str, &'a str, bool),
     /// `faultyard linear`: say which keys of the history on standard input aren't linearizable.
     Linear,
+    /// `faultyard config CONFIG`: say how much is in a cluster file, or where its fault lies and what
+    /// was expected there.
+    Config(&'a str),
+}
+
+impl<'a> Task<'a> {
+    /// The files that it names, the cluster file first.
+    pub fn files(&self) -> [Option<&'a str>; 2] {
+        match *self {
+            Task::Judge => [None, None],
+            Task::Linear => [None, None],
+            Task::Run(config) => [Some(config), None],
+            Task::Check(config) => [Some(config), None],
+            Task::Swarm(config, _) => [Some(config), None],
+            Task::Simulate(config, _, _, _) => [Some(config), None],
+            Task::Config(config) => [Some(config), None],
+            Task::Guard(config, after, _) => [Some(config), after],
+            Task::Show(config, times) => [Some(config), times],
+            Task::Bears(config, _, after, _) => [Some(config), after],
+            Task::Verdict(config, audit, _) => [Some(config), Some(audit)],
+        }
+    }
 }
 
 /// The subcommand `judge`, with its help.
@@ -369,6 +392,16 @@ fn linear<'a>(alloc: Global) -> Command<'a>
         .after_help(with_statuses!("Example:\n  faultyard linear < examples/register.history"))
 }
 
+/// The subcommand `config`, with its help.
+fn config_check<'a>(alloc: Global) -> Result<Command<'a>, AllocError>
+    ensures { IfOk result (λ command. app_of command ≡ config_command) }
+{
+    Command::new(alloc, "config")
+        .about("Says how much is in a cluster file, or where its fault lies and what is expected")
+        .after_help(with_statuses!("Example:\n  faultyard config examples/c6.toml"))
+        .arg(config(alloc))
+}
+
 /// The command line without its subcommands, of which one is wanted.
 fn bare<'a>(alloc: Global) -> Command<'a>
     ensures { app_of result ≡ bare_command }
@@ -396,7 +429,8 @@ fn faultyard<'a>(alloc: Global) -> Result<Command<'a>, AllocError>
         .subcommand(show(alloc)?)?
         .subcommand(bears(alloc)?)?
         .subcommand(verdict(alloc)?)?
-        .subcommand(linear(alloc))
+        .subcommand(linear(alloc))?
+        .subcommand(config_check(alloc)?)
 }
 
 /// The task that the words ask for; the first word is the program's name.
@@ -443,6 +477,7 @@ pub fn read_task<'a>(alloc: Global, words: &'a [String]) -> Result<Task<'a>, cla
         }
         "verdict" => Ok(Task::Verdict(config_of(given), audit_of(given), is_set(given, "fresh"))),
         "linear" => Ok(Task::Linear),
+        "config" => Ok(Task::Config(config_of(given))),
         _ => unreachable!(),
     }
 }

@@ -1,6 +1,6 @@
 # Completion of faultyard for fish.
 
-set -l commands judge run check swarm simulate guard show bears verdict linear help
+set -l commands judge run check swarm simulate guard show bears verdict linear config help
 
 complete -c faultyard -f
 complete -c faultyard -s h -l help -d "Print help"
@@ -26,10 +26,12 @@ complete -c faultyard -n "not __fish_seen_subcommand_from $commands" -a verdict 
     -d "Says what became of each record of a history, and whose fault each loss is"
 complete -c faultyard -n "not __fish_seen_subcommand_from $commands" -a linear \
     -d "Says which keys of a history aren't linearizable registers"
+complete -c faultyard -n "not __fish_seen_subcommand_from $commands" -a config \
+    -d "Says how much is in a cluster file, or where its fault lies and what is expected"
 complete -c faultyard -n "not __fish_seen_subcommand_from $commands" -a help \
     -d "Print this message or the help of the given subcommand(s)"
 complete -c faultyard -k -a "(__fish_complete_suffix .toml)" \
-    -n "__fish_seen_subcommand_from run check swarm simulate guard show bears verdict"
+    -n "__fish_seen_subcommand_from run check swarm simulate guard show bears verdict config"
 complete -c faultyard -n "__fish_seen_subcommand_from swarm simulate" -l seed -x \
     -d "What the plans of the actors are drawn from, from 0 to 2^64 - 1"
 complete -c faultyard -n "__fish_seen_subcommand_from simulate" -l acts -x \
@@ -53,4 +55,4 @@ complete -c faultyard -n "__fish_seen_subcommand_from verdict" -l audit -r -F \
 complete -c faultyard -n "__fish_seen_subcommand_from verdict" -l fresh \
     -d "A record that was stale gives status 7: the store promises fresh reads"
 complete -c faultyard -n "__fish_seen_subcommand_from help" \
-    -a "judge run check swarm simulate guard show bears verdict linear"
+    -a "judge run check swarm simulate guard show bears verdict linear config"

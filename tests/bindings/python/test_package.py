@@ -48,7 +48,6 @@ class TypesTest(unittest.TestCase):
             "--cache-dir=/dev/null",
             "keeper.py",
             "nemesis",
-            "config_check",
         ]
         env = os.environ | {"MYPYPATH": str(PACKAGE / "src")}
         tools = common.ROOT / "tools"

@@ -1,7 +1,7 @@
 use Rattle.std.proofs.Common.{ap, ap₂, ◌≡◌, ◌∙◌}
 use Rattle.std.proofs.lemmas.Result.{IfOk-weaker}
 use Rattle.clap.specs.Words.{App, app_of, with_subcommand}
-use Rattle.faultyard.specs.Commands.{bare_command, judge_command, run_command, check_command, swarm_command, simulate_command, guard_command, show_command, bears_command, verdict_command}
+use Rattle.faultyard.specs.Commands.{bare_command, judge_command, run_command, check_command, swarm_command, simulate_command, guard_command, show_command, bears_command, verdict_command, linear_command}
 use Rattle.faultyard.proofs.CommandLemmas.{plain_is_local}
 use Rattle.faultyard.proofs.task.faultyard.Goals as goal
 
@@ -27,4 +27,6 @@ returns c =
     c.in_ok-subcommand-8.ensures.shape (plain_is_local _ (plain _ _ c.in_ok-bears.ensures)) ∙ ap₂ with_subcommand seventh (top _ _ c.in_ok-bears.ensures) in
     let ninth : app_of c.in_ok-subcommand-9.field-0 ≡ with_subcommand (with_subcommand (with_subcommand (with_subcommand (with_subcommand (with_subcommand (with_subcommand (with_subcommand (with_subcommand bare_command judge_command.top) run_command.top) check_command.top) swarm_command.top) simulate_command.top) guard_command.top) show_command.top) bears_command.top) verdict_command.top =
     c.in_ok-subcommand-9.ensures.shape (plain_is_local _ (plain _ _ c.in_ok-verdict.ensures)) ∙ ap₂ with_subcommand eighth (top _ _ c.in_ok-verdict.ensures) in
-    IfOk-weaker c.subcommand-10.result _ _ (λ m h. h.shape (plain_is_local c.linear.result (plain _ _ c.linear.ensures)) ∙ ap₂ with_subcommand ninth (top _ _ c.linear.ensures)) c.subcommand-10.ensures
+    let tenth : app_of c.in_ok-subcommand-10.field-0 ≡ with_subcommand (with_subcommand (with_subcommand (with_subcommand (with_subcommand (with_subcommand (with_subcommand (with_subcommand (with_subcommand (with_subcommand bare_command judge_command.top) run_command.top) check_command.top) swarm_command.top) simulate_command.top) guard_command.top) show_command.top) bears_command.top) verdict_command.top) linear_command.top =
+    c.in_ok-subcommand-10.ensures.shape (plain_is_local c.linear.result (plain _ _ c.linear.ensures)) ∙ ap₂ with_subcommand ninth (top _ _ c.linear.ensures) in
+    IfOk-weaker c.subcommand-11.result _ _ (λ m h. h.shape (plain_is_local _ (plain _ _ c.in_ok-config_check.ensures)) ∙ ap₂ with_subcommand tenth (top _ _ c.in_ok-config_check.ensures)) c.subcommand-11.ensures

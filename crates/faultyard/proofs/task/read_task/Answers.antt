@@ -2,7 +2,7 @@ use Rattle.std.proofs.Common.{arith, codes, inl, inr, map}
 use Rattle.std.specs.Prelude.{string_bytes}
 use Rattle.std.proofs.lemmas.Result.{err_from_is_err_and}
 use Rattle.faultyard.proofs.CommandLemmas.{faultless, fails_by, has_audit, has_config, has_seed, is_task_of, met_task}
-use Rattle.faultyard.specs.declared.task.Task.TheVariants.{Judge, Run, Check, Swarm, Simulate, Guard, Show, Bears, Verdict, Linear}
+use Rattle.faultyard.specs.declared.task.Task.TheVariants.{Judge, Run, Check, Swarm, Simulate, Guard, Show, Bears, Verdict, Linear, Config}
 use Rattle.faultyard.proofs.task.read_task.Goals as goal
 
 pub returns-in-judge-clause-refused : goal.returns-in-judge-clause-refused
@@ -34,6 +34,9 @@ returns-in-verdict-clause-refused c = faultless _ (map string_bytes c.args.words
 
 pub returns-in-linear-clause-refused : goal.returns-in-linear-clause-refused
 returns-in-linear-clause-refused c = faultless _ (map string_bytes c.args.words.now) c.in_ok-faultyard.ensures c.in_ok-matches.ensures.kinds
+
+pub returns-in-config-clause-refused : goal.returns-in-config-clause-refused
+returns-in-config-clause-refused c = faultless _ (map string_bytes c.args.words.now) c.in_ok-faultyard.ensures c.in_ok-matches.ensures.kinds
 
 pub returns-in_err-matches-clause-refused : goal.returns-in_err-matches-clause-refused
 returns-in_err-matches-clause-refused c =
@@ -82,6 +85,15 @@ returns-in-verdict-clause-task c = is_task_of _ (map string_bytes c.args.words.n
 pub returns-in-linear-clause-task : goal.returns-in-linear-clause-task
 returns-in-linear-clause-task c = is_task_of _ (map string_bytes c.args.words.now) c.in_ok-matches.matches c.in-Some.name.now c.in-Some.given.now Linear c.in_ok-faultyard.ensures
     c.in_ok-matches.ensures.matches c.in-Some.ensures.name c.in-Some.ensures.rows c.in-linear.is
+
+pub returns-in-config-clause-task : goal.returns-in-config-clause-task
+returns-in-config-clause-task c = is_task_of _ (map string_bytes c.args.words.now) c.in_ok-matches.matches c.in-Some.name.now c.in-Some.given.now (Config c.config_of-in-config.result) c.in_ok-faultyard.ensures
+    c.in_ok-matches.ensures.matches c.in-Some.ensures.name c.in-Some.ensures.rows (c.in-config.is, c.config_of-in-config.ensures)
+
+pub config_of-requires-in-config : goal.config_of-requires-in-config
+config_of-requires-in-config c = has_config c.in-Some.name.now (codes "config") c.in-Some.given.now c.in-config.is (λ e. omega arith) (λ e. omega arith)
+    (met_task _ (map string_bytes c.args.words.now) c.in_ok-matches.matches c.in-Some.name.now c.in-Some.given.now c.in_ok-faultyard.ensures
+    c.in_ok-matches.ensures.kinds c.in_ok-matches.ensures.matches c.in-Some.ensures.name c.in-Some.ensures.rows)
 
 pub config_of-requires-in-verdict : goal.config_of-requires-in-verdict
 config_of-requires-in-verdict c = has_config c.in-Some.name.now (codes "verdict") c.in-Some.given.now c.in-verdict.is (λ e. omega arith) (λ e. omega arith)
@@ -153,6 +165,7 @@ unreachable-requires-in_default-name c =
         | inr (inr (inr (inr (inl guard)))) ↦ absurd (c.in_default-name.not-guard guard)
         | inr (inr (inr (inr (inr (inl show))))) ↦ absurd (c.in_default-name.not-show show)
         | inr (inr (inr (inr (inr (inr (inl bears)))))) ↦ absurd (c.in_default-name.not-bears bears)
-        | inr (inr (inr (inr (inr (inr (inr verdict)))))) ↦ absurd (c.in_default-name.not-verdict verdict)
+        | inr (inr (inr (inr (inr (inr (inr (inl verdict))))))) ↦ absurd (c.in_default-name.not-verdict verdict)
+        | inr (inr (inr (inr (inr (inr (inr (inr config))))))) ↦ absurd (c.in_default-name.not-config config)
       ]
     ]
