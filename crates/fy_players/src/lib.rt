@@ -5,6 +5,7 @@
 mod draws;
 mod faults;
 mod knowledge;
+pub mod laws;
 mod operator;
 mod orders;
 mod picks;

@@ -10,4 +10,6 @@ ghost use Rattle.fy_simulate.specs.Simulate.{IsSimulated};
 pub fn a_simulation_is_one()
     ensures { (c : Setup) → (seed : ℕ) → (plan : Plan) → (acts : ℕ) → (one other : List Entry) →
         IsSimulated c seed plan acts one → IsSimulated c seed plan acts other → one ≡ other }
-{}
+{
+    fy_players::laws::a_turn_is_one();
+}
