@@ -625,6 +625,8 @@ PLANNED = {
     "release/completions/fish/faultyard-shrink.fish": 1,
     "release/completions/fish/faultyard-sweep.fish": 1,
     "release/completions/zsh/_faultyard": 5,
+    "bindings/python/README.md": 1,
+    "bindings/python/src/faultyard/plans.py": 1,
     "release/man/faultyard-sweep.1": 1,
     "tools/sweep": 1,
 }
@@ -632,7 +634,7 @@ PLANNED = {
 
 def plans_of(count: int) -> Callable[[str], list[tuple[str, ...]]]:
     """The lists of four words that begin as those of the plans do, however they are parted."""
-    between = r"[, \"]+(?:or[ \"]+)?"
+    between = r"[, \"`]+(?:or[ \"`]+)?"
     four = between.join([r"(mixed|\w+)"] * 4)
     return lambda text: re.findall(rf"(?=\bmixed){four}", text)
 
@@ -811,6 +813,96 @@ def limit_at(path: str, pattern: str, limit: tuple[str, str]) -> Place:
 
 
 LIMITS = tuple(limit_at(*it) for it in LIMITED)
+# What is beyond a limit, as pages of man and the fault lines say it, and the limit.
+SAID = {
+    "docs/faults.toml": {
+        r"The input has more than ([\d,]+) bytes": "fy_judge.MOST_JUDGE_BYTES",
+        r"cluster file has more than ([\d,]+) bytes": "fy_config.MOST_FILE_BYTES",
+        r"The script has more than ([\d,]+) bytes": "fy_audit.MOST_SCRIPT_BYTES",
+        r"and has more than ([\d,]+) bytes without": "fy_spelling.MOST_LINE_BYTES",
+        r"The audit has more than ([\d,]+) bytes": "fy_audit.MOST_AUDIT_BYTES",
+        r"file of events has more than ([\d,]+) bytes": "fy_events.MOST_EVENTS_BYTES",
+        r"Or ([\d,]+) lines stand before it": "fy_history.MOST_HISTORY_LINES",
+        r"`journal_limit` from 1 to ([\d,]+)": "fy_cluster.MOST_JOURNAL_ENTRIES",
+        r"; 1 to ([\d,]+) policies": "fy_policy.MOST_POLICIES",
+        r"; 1 to ([\d,]+) processes": "fy_locality.MOST_PROCESSES",
+        r"; 1 to ([\d,]+) actors": "fy_cluster.MOST_ACTORS",
+        r"at most ([\d,]+) grants": "fy_grants.MOST_GRANTS",
+        r"at most ([\d,]+) protections": "fy_config.MOST_PROTECTIONS",
+        r"a count outside 1 to ([\d,]+)": "fy_policy.MOST_COUNT",
+        r"a text over the limits: ([\d,]+)": "fy_policy.MOST_READ_BYTES",
+    },
+    "release/man/faultyard-check.1": {
+        r"An audit has at most ([\d,]+) bytes": "fy_audit.MOST_AUDIT_BYTES",
+        r"a line at most ([\d,]+)": "fy_spelling.MOST_LINE_BYTES",
+    },
+    "release/man/faultyard-guard.1": {
+        r"^and at most ([\d,]+) bytes": "fy_spelling.MOST_LINE_BYTES",
+    },
+    "release/man/faultyard-judge.1": {
+        r"on at most ([\d,]+) lines": "fy_locality.MOST_PROCESSES",
+        r"The input has at most ([\d,]+) bytes": "fy_judge.MOST_JUDGE_BYTES",
+    },
+    "release/man/faultyard-run.1": {
+        r"A script has at most ([\d,]+) bytes": "fy_audit.MOST_SCRIPT_BYTES",
+        r"a line at most ([\d,]+)": "fy_spelling.MOST_LINE_BYTES",
+    },
+    "release/man/faultyard-serve.1": {
+        r"might get over ([\d,]+) bytes": "fy_audit.MOST_AUDIT_BYTES",
+        r"A body has at most ([\d,]+) bytes": "fy_spelling.MOST_LINE_BYTES",
+    },
+    CONFIG_5: {
+        r"in UTF-8 of at most ([\d,]+) bytes": "fy_config.MOST_FILE_BYTES",
+        r"a whole number from 1 to ([\d,]+)": "fy_cluster.MOST_JOURNAL_ENTRIES",
+        r"an array of at most ([\d,]+) tables": "fy_config.MOST_PROTECTIONS",
+        r"have at most ([\d,]+) grants": "fy_grants.MOST_GRANTS",
+        r"A policy has at most ([\d,]+) bytes": "fy_policy.MOST_READ_BYTES",
+        r"bytes and ([\d,]+) nodes": "fy_policy.MOST_NODES",
+        r"a depth of at most ([\d,]+)": "fy_policy.MOST_DEPTH",
+        r"counts from 1 to ([\d,]+)": "fy_policy.MOST_COUNT",
+    },
+    "bindings/go/acts.go": {
+        r"or are more than ([\d,]+)": "fy_team.MOST_MEMBERS",
+        r"payload has more than ([\d,]+) bytes": "fy_c.MOST_PAYLOAD",
+    },
+    "bindings/rust/src/acts.rs": {
+        r"or are more than ([\d,]+)": "fy_team.MOST_MEMBERS",
+        r"payload has more than ([\d,]+) bytes": "fy_c.MOST_PAYLOAD",
+    },
+    "bindings/rust/src/error.rs": {
+        r"or are more than ([\d,]+)": "fy_team.MOST_MEMBERS",
+        r"payload has more than ([\d,]+) bytes": "fy_c.MOST_PAYLOAD",
+    },
+}
+LIMITS += tuple(
+    limit_at(path, phrase, (crate, name))
+    for path, phrases in SAID.items()
+    for phrase, (crate, _, name) in ((it, limit.partition(".")) for it, limit in phrases.items())
+)
+
+
+# ---- the words that a file's tables may have, of which `config` says what was expected
+
+SHAPES = "crates/fy_where/src/shapes.rt"
+
+
+def texts_of(name: str) -> Callable[[str], list[str]]:
+    """The texts of a constant, on one line or on several."""
+    return lambda text: re.findall(r'"(\w+)"', part_of(text, rf"const {name}: [^=]* = \[", r"\];$"))
+
+
+def file_keys(name: str) -> Callable[[Words], list[str]]:
+    return lambda table: table["file"][name]
+
+
+EXPECTED = (
+    *(
+        Place(SHAPES, f"keys: {name}", texts_of(f"{name.upper()}_KEYS"), file_keys(name))
+        for name in ("top", "process", "actor", "grant", "protection")
+    ),
+    Place(SHAPES, "kinds", texts_of("KINDS"), words_of("deeds")),
+    Place(SHAPES, "roles", texts_of("ROLES"), lambda table: table["roles"]),
+)
 NUMBER_OF_C = Place(
     "crates/fy_c/src/asking.rt",
     "version",
@@ -818,4 +910,13 @@ NUMBER_OF_C = Place(
     lambda table: {str(number_of(table["version"]))},
 )
 
-PLACES = (*C, *CPP, *GO, *RUST, *PYTHON, *JAVA_PLACES, *OTHERS, *VERSIONS, *LIMITS, NUMBER_OF_C)
+# A library with another first number is refused.
+MAJOR = Place(
+    LIBRARY_PY,
+    "first number of the version",
+    versions(r"^MAJOR = (\d+)$"),
+    lambda table: {table["version"].partition(".")[0]},
+)
+
+BINDINGS = (*C, *CPP, *GO, *RUST, *PYTHON, *JAVA_PLACES)
+PLACES = (*BINDINGS, *OTHERS, *VERSIONS, *LIMITS, *EXPECTED, NUMBER_OF_C, MAJOR)
