@@ -245,8 +245,8 @@ packaged:
 try-dist:
 	tests/dist/try dist
 
-## runs the command of each store's page as it is written, in a bare root with what is in `dist/`
-## and Debian's packages that the page names; takes half an hour
+## runs the commands of README, of pages of `docs/` and of each store's page as they are written, in
+## a bare root with what is in `dist/` and Debian's packages that they call; takes over half an hour
 try-commands:
 	tests/dist/try --commands dist
 
