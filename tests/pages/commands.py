@@ -10,6 +10,7 @@ from importlib.machinery import SourceFileLoader
 from importlib.util import module_from_spec, spec_from_loader
 from pathlib import Path
 from types import ModuleType
+from typing import Any
 from unittest import mock
 
 import shown
@@ -155,7 +156,7 @@ class RunByNobody(unittest.TestCase):
         self.patch("BARE", {"a.md": ""})
         self.rest = {"NO_COMMANDS": {("a.md", "2"): "printed"}}
 
-    def patch(self, name: str, table: dict[object, str]) -> None:
+    def patch(self, name: str, table: dict[Any, str]) -> None:
         patched = mock.patch.dict(getattr(shown, name), table, clear=True)
         patched.start()
         self.addCleanup(patched.stop)

@@ -103,13 +103,13 @@ class Block:
 
     def saved_as(self) -> str:
         """The name of the file that the reader is told to save it as, if any."""
-        names = [name for it in SAVED.findall(self.above) for name in it if name]
+        names = [str(name) for it in SAVED.findall(self.above) for name in it if name]
         return names[-1] if names and self.language not in SHELLS - {"bash"} else ""
 
     def then_run(self) -> str:
         """The command that the reader is told to run once it is saved, if any."""
         told = THEN_RUN.search(self.above)
-        return told[1] if told and self.saved_as() else ""
+        return str(told[1]) if told and self.saved_as() else ""
 
 
 def blocks(page: str) -> list[Block]:
