@@ -23,6 +23,7 @@ SOURCES |= {"yaml"}
 # these call. It runs those of the stores' pages too.
 BARE = {
     "README.md": "etcd-server",
+    "bindings/python/README.md": "python3-venv",
     "docs/COMMANDS.md": "parallel",
     "docs/COOKBOOK.md": "jq",
     "docs/GUARD.md": "curl",
@@ -37,7 +38,6 @@ ELSEWHERE = {
     ("bindings/go/README.md", "$ go mod edit "): "tests/bindings/python/test_go.py",
     ("bindings/go/README.md", "$ go run "): "tests/bindings/python/test_go.py",
     ("bindings/java/README.md", "$ javac "): "tests/bindings/python/test_package.py",
-    ("bindings/python/README.md", "$ python3 guarded.py"): "tests/bindings/python/test_package.py",
     ("bindings/rust/README.md", "$ FAULTYARD_LIB_DIR="): "tests/bindings/python/test_rust.py",
     ("docs/KUBERNETES.md", "zone() "): "tests/serve/test_kubernetes.py",
     ("docs/KUBERNETES.md", "set -eu\nask() "): "tests/serve/test_kubernetes.py",
@@ -47,7 +47,6 @@ ELSEWHERE = {
 # What nothing runs as it is written, and why.
 NOT_RUN = {
     ("bindings/go/README.md", "$ export "): "PREFIX stands for the reader's own",
-    ("bindings/python/README.md", "$ python3 -m venv "): "pip is tried with words of its own",
     ("docs/HOOKS.md", "for host in "): "it takes five hosts: tests/hosts/run has its own",
     ("docs/NEMESIS.md", "faultyard-nemesis "): "it takes a cluster that is up on three hosts",
     ("docs/NEMESIS.md", "faultyard-sweep "): "a hundred runs take an hour",
@@ -67,7 +66,7 @@ NO_COMMANDS = {
 
 BLOCK = re.compile(r"^( *)```(\S*)\n(.*?)^\1```$", re.M | re.S)
 SAVED = re.compile(
-    r"\b(?:save|copy)\b[^`]* as `([\w.]+)`(?:, and this as `([\w.]+)`)?|^this is `([\w.]+)`:",
+    r"\b(?:save|copy)\b[^`]* as `([\w./]+)`(?:, and this as `([\w./]+)`)?|^this is `([\w./]+)`:",
     re.I | re.M,
 )
 THEN_RUN = re.compile(r"\bsave\b[^`]*`[^`]+`, and run `([^`]+)`", re.I)
