@@ -1,100 +1,34 @@
-//! Writes what may forget, behind what a cluster bears. The text is promised (docs/FORMATS.md), and
-//! tested by `tests/cli/bears.toml`; no contract says what it is.
+//! Writes what may forget, for programs, behind what a cluster bears. The text is promised
+//! (docs/FORMATS.md), and tested by `tests/cli/bears.toml`; no contract says what it is.
 use fy_cluster::Config;
 use fy_locality::{Key, Map, ProcSet};
 use fy_policy::{Policy, policy_text};
-use fy_tolerance::Form;
 use fy_votes::Forgetting;
 use std::alloc::{AllocError, Global};
 
 /// What may forget by one policy of elections: by each of writes, if any.
 type Found = Option<Vec<Forgetting>>;
 
-/// Appends what may forget by each policy of elections to a text that has this form. JSON gets a
-/// member more of its object.
+/// Appends what may forget by each policy of elections to a text of JSON, as a member more of its
+/// object.
 pub(crate) fn push_forgetting(
     alloc: Global,
     text: &mut String,
     config: &Config,
     elections: &[Policy],
     found: &[Found],
-    form: Form,
 ) -> Result<(), AllocError> {
-    match form {
-        Form::Text => {
-            for (policy, one) in elections.iter().zip(found) {
-                push_paragraph(alloc, text, config, policy, one)?;
-            }
-            Ok(())
+    // Behind the object's last member stand its brace and the end of the line.
+    let _ = text.pop();
+    let _ = text.pop();
+    text.push_str(",\"forgetting\":[")?;
+    for (place, (policy, one)) in elections.iter().zip(found).enumerate() {
+        if place > 0 {
+            text.push_str(",")?;
         }
-        Form::Json => {
-            // Behind the object's last member stand its brace and the end of the line.
-            let _ = text.pop();
-            let _ = text.pop();
-            text.push_str(",\"forgetting\":[")?;
-            for (place, (policy, one)) in elections.iter().zip(found).enumerate() {
-                if place > 0 {
-                    text.push_str(",")?;
-                }
-                push_object(alloc, text, config, policy, one)?;
-            }
-            text.push_str("]}\n")
-        }
+        push_object(alloc, text, config, policy, one)?;
     }
-}
-
-/// The paragraph of a policy of elections.
-fn push_paragraph(
-    alloc: Global,
-    text: &mut String,
-    config: &Config,
-    elections: &Policy,
-    found: &Found,
-) -> Result<(), AllocError> {
-    let words = policy_text(alloc, elections)?;
-    let words = words.as_str();
-    let Some(all) = found else {
-        return writeln!(
-            text,
-            "\nforgetting, elections by {words}: nobody is elected, not even by all processes"
-        );
-    };
-    writeln!(text, "\nforgetting, elections by {words}:")?;
-    for (place, (policy, one)) in config.policies().iter().zip(all).enumerate() {
-        let words = policy_text(alloc, policy)?;
-        let words = words.as_str();
-        write!(text, "  policy {place} {words}: ")?;
-        push_number(text, one)?;
-        push_names(text, config.map(), &one.too_many)?;
-    }
-    Ok(())
-}
-
-/// How many processes may forget, up to the names of those that may not.
-fn push_number(text: &mut String, found: &Forgetting) -> Result<(), AllocError> {
-    let many = found.too_many.len();
-    match found.any() {
-        Some(any) if found.is_exact() => write!(text, "exactly {any}; too many:"),
-        Some(any) => write!(text, "at least {any}; these {many} are too many:"),
-        None if found.is_exact() => text.push_str("unsafe with none; too many:"),
-        None => write!(text, "not known; these {many} are too many:"),
-    }
-}
-
-/// The names of the processes of a set, and the end of the line.
-fn push_names(text: &mut String, map: &Map, set: &ProcSet) -> Result<(), AllocError> {
-    if set.is_empty() {
-        text.push_str(" none")?;
-    }
-    for p in set.iter() {
-        if p.0 < map.len() {
-            if let Some(name) = map.value(p, Key::Process) {
-                text.push_str(" ")?;
-                text.push_str(name.as_str())?;
-            }
-        }
-    }
-    text.push_str("\n")
+    text.push_str("]}\n")
 }
 
 /// The object of a policy of elections.

@@ -5,6 +5,7 @@ mod bears;
 mod forgetting;
 mod lost;
 mod spelling;
+mod text;
 mod told;
 
 pub use bears::{run_bears, run_bears_after};

@@ -1,8 +1,10 @@
 //! How what is told is spelled. The engines are generic in it, so what they write comes from what
-//! is told and from nothing else. How the two forms of `bears` spell is only tested.
+//! is told and from nothing else. How JSON is spelled is only tested.
 ghost use Rattle.std.specs.Prelude.{IfOk, string_bytes};
+ghost use Rattle.fy_bears.specs.Spelled.{IsSpelled};
 
 use crate::forgetting::push_forgetting;
+use crate::text::told_text;
 use crate::told::Told;
 use fy_cluster::Config;
 use fy_policy::Policy;
@@ -35,8 +37,7 @@ pub trait Spelling {
 }
 
 impl Spelling for Form {
-    // No definition says what the two forms are.
-    ghost spells = { λ _ _ _ _ _. Unit };
+    ghost spells = { λ form setup elections told text. IsSpelled form setup elections told text };
 
     fn spell(
         &self,
@@ -45,12 +46,31 @@ impl Spelling for Form {
         elections: &[Policy],
         told: &Told,
     ) -> Result<String, AllocError> {
-        let (map, policies) = (config.map(), config.policies());
-        let before = told.before.as_ref();
-        let mut text = write_findings(alloc, map, policies, before, &told.findings, *self)?;
-        if !elections.is_empty() {
-            push_forgetting(alloc, &mut text, config, elections, &told.forgetting, *self)?;
+        match self {
+            Form::Text => {
+                let text = told_text(alloc, config, elections, told)?;
+                Ok(text)
+            }
+            Form::Json => {
+                let text = told_json(alloc, config, elections, told)?;
+                Ok(text)
+            }
         }
-        Ok(text)
     }
+}
+
+/// What is told of a configuration's cluster, as JSON.
+fn told_json(
+    alloc: Global,
+    config: &Config,
+    elections: &[Policy],
+    told: &Told,
+) -> Result<String, AllocError> {
+    let (map, policies) = (config.map(), config.policies());
+    let before = told.before.as_ref();
+    let mut text = write_findings(alloc, map, policies, before, &told.findings, Form::Json)?;
+    if !elections.is_empty() {
+        push_forgetting(alloc, &mut text, config, elections, &told.forgetting)?;
+    }
+    Ok(text)
 }
