@@ -226,6 +226,8 @@ class Room:
         """Leaves out the proofs of all functions but these."""
         for path in self.holes:
             at = f"{self.crate}/proofs/{path.replace('::', '/')}"
+            if os.path.isdir("/+".join(os.path.split(at))):
+                continue  # It calls itself, so its proof lies there, and a file here is refused.
             if path in turned_paths and path in self.filled:
                 os.remove(f"{at}/Proof.antt")
                 for file, text in self.filled.pop(path).items():
