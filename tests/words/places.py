@@ -903,6 +903,17 @@ EXPECTED = (
     Place(SHAPES, "kinds", texts_of("KINDS"), words_of("deeds")),
     Place(SHAPES, "roles", texts_of("ROLES"), lambda table: table["roles"]),
 )
+
+# What `bears` says of each loss begins with its kind: those that destroy are the last two.
+LOSSES = tuple(
+    Place(
+        f"crates/fy_bears/{path}",
+        "kinds that destroy",
+        lambda text: re.findall(r'"\\n[a-z ]+\((\w+)\): "', text),
+        lambda table: list(table["kinds"])[-2:],
+    )
+    for path in ("src/text.rt", "specs/Texts.antt")
+)
 NUMBER_OF_C = Place(
     "crates/fy_c/src/asking.rt",
     "version",
@@ -919,4 +930,4 @@ MAJOR = Place(
 )
 
 BINDINGS = (*C, *CPP, *GO, *RUST, *PYTHON, *JAVA_PLACES)
-PLACES = (*BINDINGS, *OTHERS, *VERSIONS, *LIMITS, *EXPECTED, NUMBER_OF_C, MAJOR)
+PLACES = (*BINDINGS, *OTHERS, *VERSIONS, *LIMITS, *EXPECTED, *LOSSES, NUMBER_OF_C, MAJOR)
