@@ -41,31 +41,35 @@ MARKS = (
     ("beyond", "D", "more than the guard said"),
     ("taker", "D", "destroyed a holder of a lost record"),
 )
+# The states have the hues of `faultyard show`, and orders its two glyphs: black with a white rim
+# what struck as ordered, white with a black rim what struck with less or not at all.
 STYLE = """
 svg { background: var(--paper); font: 12px system-ui, "DejaVu Sans", sans-serif;
-  --paper: #ffffff; --ink: #1b1f24; --faint: #6a737d; --line: #d8dee4; --lane: #f3f5f7;
-  --up: #35a07c; --down: #aab3bd; --emptied: #d1495b; --healing: #e8a33d; --gone: #1b1f24;
-  --clog: #3572c6; --write: #3572c6; --quiet: #d1495b; --lost: #c1121f; --stale: #9b4dca; }
+  --paper: #ffffff; --ink: #1a1a1a; --faint: #5c5c5c; --line: #c8c8c8; --lane: #f3f3f3;
+  --up: #81ddb8; --down: #d99100; --gone: #7b7b7b; --emptied: #71104e;
+  --cut: #005d9f; --write: #0072b2; --quiet: #d1495b; --lost: #d00000; --stale: #9b4dca; }
 @media (prefers-color-scheme: dark) { svg {
-  --paper: #14181d; --ink: #e6edf3; --faint: #9aa5b1; --line: #323a43; --lane: #1d232a;
-  --up: #3fae88; --down: #5d6772; --emptied: #ef6376; --healing: #f0b354; --gone: #e6edf3;
-  --clog: #6ba4f0; --write: #6ba4f0; --quiet: #ef6376; --lost: #ff5a66; --stale: #c48be8; } }
+  --paper: #161616; --ink: #e8e8e8; --faint: #a6a6a6; --line: #484848; --lane: #202020;
+  --gone: #3b3b3b; --emptied: #c44f9a;
+  --cut: #7cc4ee; --write: #7cc4ee; --quiet: #ef6376; --lost: #ff5a66; --stale: #c48be8; } }
 text { fill: var(--ink); } .faint { fill: var(--faint); } .title { font-size: 15px; }
 .end { text-anchor: end; } .mid { text-anchor: middle; } .zone { font-weight: 600; }
 .lane { fill: var(--lane); } .grid { stroke: var(--line); } .rate { fill: var(--write); }
 .quiet { fill: var(--quiet); fill-opacity: .13; } .quiet-text { fill: var(--quiet); }
 .up { fill: var(--up); } .down { fill: var(--down); } .emptied { fill: var(--emptied); }
-.healing { fill: var(--healing); } .gone { fill: var(--gone); }
-.clog { fill: none; stroke: var(--clog); stroke-width: 2; stroke-dasharray: 3 2; }
-.disturbed { fill: none; stroke: var(--healing); stroke-width: 2; }
+.healing { fill: var(--paper); stroke: var(--emptied); stroke-width: 2; }
+.gone { fill: var(--gone); stroke: var(--faint); stroke-width: .6; }
+.clog { fill: none; stroke: var(--cut); stroke-width: 2; stroke-dasharray: 3 2; }
+.disturbed { fill: none; stroke: var(--cut); stroke-width: 2; }
 .damaged { fill: none; stroke: var(--emptied); stroke-width: 2; }
-.order circle { fill: var(--paper); stroke: var(--ink); stroke-width: 1.3; }
-.order text { font-size: 10px; font-weight: 600; text-anchor: middle; }
-.lessened circle { stroke: var(--healing); stroke-width: 2.6; }
-.barred circle { stroke: var(--faint); stroke-dasharray: 2 2; } .barred text { fill: var(--faint); }
+.order circle { fill: #1a1a1a; stroke: #ffffff; stroke-width: 1.3; }
+.order text { fill: #ffffff; font-size: 10px; font-weight: 600; text-anchor: middle; }
+.lessened circle, .barred circle { fill: #ffffff; stroke: #1a1a1a; }
+.lessened text, .barred text { fill: #1a1a1a; }
+.lessened circle { stroke: var(--down); stroke-width: 2.6; }
+.barred circle { stroke-dasharray: 2 2; }
 .beyond circle { stroke: var(--lost); stroke-width: 3; } .taker circle { fill: var(--lost); }
-.taker text { fill: var(--paper); } .word { font-size: 11px; }
-.crash { fill: var(--healing); stroke: var(--ink); stroke-width: 1.2; }
+.word { font-size: 11px; } .crash { fill: var(--down); stroke: var(--ink); stroke-width: 1.2; }
 .lost { stroke: var(--lost); } .stale { stroke: var(--stale); } .other { stroke: var(--faint); }
 .tick { stroke-width: 1.6; } .over { stroke: var(--faint); stroke-dasharray: 5 4; }
 """
