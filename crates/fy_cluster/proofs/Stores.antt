@@ -1,6 +1,6 @@
 -- holders of a guarded store's records: what covers a record goes on covering it, and the destroyed
 -- never do
-use Rattle.std.proofs.Common.{◌≡◌, ℕ, zero, suc, ◌+◌, ◌<◌, Bool, true, false, ◌&&◌, ◌||◌, not, length, Contains, refl, ◌∙◌, subst, arith, inl, inr, zero-add}
+use Rattle.std.proofs.Common.{◌≡◌, ℕ, zero, suc, ◌+◌, ◌<◌, Bool, true, false, ◌&&◌, ◌||◌, not, length, Contains, refl, ◌∙◌, subst, arith, ◌⊎◌, inl, inr, zero-add}
 use Rattle.std.proofs.lemmas.Bool.{false≢true, not-false, both_ways, false_from_ne_true}
 use Rattle.std.proofs.lemmas.List.Elements.{All-contains, All-from_recursion}
 use Rattle.std.proofs.lemmas.List.Folds.{Any-from_list_any}
@@ -20,21 +20,24 @@ abbrev dropped : Setup → Moment → Moment → ℕ → ProcessSet
 dropped c before after r p =
     (before.holders r p || known_destroyed c before p) && not (after.holders r p || known_destroyed c after p)
 
--- that one was healed without the record
-dropped_is : (held was holds is : Bool) → ((held || was) && not (holds || is)) ≡ true → (held ≡ true → holds ≡ false → is ≡ true) → (was ≡ true) × (is ≡ false) × (holds ≡ false)
-dropped_is held was true is e dies = absurd (both_ways _ (no (held || was)) e)
+-- that one was healed without the record, or what follows where it lost it is so
+dropped_is : (C : Type 0) (held was holds is : Bool) → ((held || was) && not (holds || is)) ≡ true → (held ≡ true → holds ≡ false → (is ≡ true) ⊎ C) → ((was ≡ true) × (is ≡ false) × (holds ≡ false)) ⊎ C
+dropped_is C held was true is e dies = absurd (both_ways _ (no (held || was)) e)
   where
     no : (b : Bool) → (b && false) ≡ false
     no true = refl
     no false = refl
-dropped_is held was false true e dies = absurd (both_ways _ (no (held || was)) e)
+dropped_is C held was false true e dies = absurd (both_ways _ (no (held || was)) e)
   where
     no : (b : Bool) → (b && false) ≡ false
     no true = refl
     no false = refl
-dropped_is held true false false e dies = (refl, refl, refl)
-dropped_is true false false false e dies = absurd (false≢true (dies refl refl))
-dropped_is false false false false e dies = absurd (false≢true e)
+dropped_is C held true false false e dies = inl (refl, refl, refl)
+dropped_is C true false false false e dies = elim (dies refl refl) [
+  | inl is ↦ absurd (false≢true is)
+  | inr k ↦ inr k
+]
+dropped_is C false false false false e dies = absurd (false≢true e)
 
 -- whoever isn't dropped stays in
 stays : (was is : Bool) → was ≡ true → (was && not is) ≡ false → is ≡ true
@@ -54,13 +57,18 @@ covered_next more c before after step r a covered = at (list_any f (range_with_l
     f : ProcessSet
     f = dropped c before after r
 
+    healed : (p : ℕ) → (known_destroyed c before p ≡ true) × (known_destroyed c after p ≡ false) × (after.holders r p ≡ false) → IsCovered c after r
+    healed p is = elim (step.heals p r (record { was = is.0; is = is.1 }) a) [
+      | inl h ↦ absurd (both_ways _ is.2 h)
+      | inr k ↦ k
+    ]
+
     at : (b : Bool) → list_any f (range_with_len 0 (length c.processes)) ≡ b → IsCovered c after r
     at true some =
         let found : Any (λ p. f p ≡ true) (range_with_len 0 (length c.processes)) = Any-from_list_any f (range_with_len 0 (length c.processes)) some in
         let p : ℕ = found.1 in
-        let is = dropped_is (before.holders r p) (known_destroyed c before p) (after.holders r p) (known_destroyed c after p) found.4 (step.dies r p) in
-        elim (step.heals p r (record { was = is.0; is = is.1 }) a) [
-          | inl h ↦ absurd (both_ways _ is.2 h)
+        elim (dropped_is (IsCovered c after r) (before.holders r p) (known_destroyed c before p) (after.holders r p) (known_destroyed c after p) found.4 (step.dies r p a)) [
+          | inl is ↦ healed p is
           | inr k ↦ k
         ]
     at false none = (

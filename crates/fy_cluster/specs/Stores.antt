@@ -34,16 +34,17 @@ pub record IsHealed (c : Setup) (before after : Moment) (p : ℕ) : Type 0 where
   pub is : IsFalse (known_destroyed c after p)
 
 -- the premises, from one moment to the next:
--- 1. A process that had a record and hasn't any more is destroyed by the guard's journal. No other
---    death takes one, nor its disk, nor the store.
+-- 1. A process that had an acknowledged record and hasn't any more is destroyed by the guard's
+--    journal, or the record is covered without it. No other death takes one, nor its disk, nor the
+--    store.
 -- 2. The store acknowledges a record only if its holders together with the destroyed satisfy one of
 --    the policies: at the acknowledgement, and after each heal.
 -- 3. A process is healed only once it has the acknowledged records again. It may lack those that 2
 --    covers without it.
 pub record KeepsPremises (c : Setup) (before after : Moment) : Type 0 where
   pub grows : (more : List Entry) × (after.journal ≡ before.journal ++ more)
-  pub dies : (r p : ℕ) → IsTrue (before.holders r p) → IsFalse (after.holders r p) →
-      IsTrue (known_destroyed c after p)
+  pub dies : (r p : ℕ) → IsTrue (before.acknowledged r) → IsTrue (before.holders r p) →
+      IsFalse (after.holders r p) → IsTrue (known_destroyed c after p) ⊎ IsCovered c after r
   pub acknowledges : (r : ℕ) → IsFalse (before.acknowledged r) → IsTrue (after.acknowledged r) →
       IsCovered c after r
   pub heals : (p r : ℕ) → IsHealed c before after p → IsTrue (before.acknowledged r) →
