@@ -1,88 +1,148 @@
 -- whose fault a lost record is
-use Rattle.std.proofs.Common.{◌≡◌, ℕ, zero, suc, ◌+◌, ◌-◌, ◌≤◌, ◌||◌, Bool, true, false, List, [], ◌∷◌, length, length-append, Option, Some, None, slice_get, refl, sym, ◌∙◌, ap, subst, arith, ◌⊎◌, inl, inr}
-use Rattle.std.proofs.lemmas.Bool.{or_cases, or_left, or_right}
+use Rattle.std.proofs.Common.{◌≡◌, ℕ, zero, suc, ◌+◌, ◌-◌, ◌<◌, ◌≤◌, ◌&&◌, ◌||◌, not, Bool, true, false, List, [], ◌∷◌, Contains, length, length-append, Option, Some, None, slice_get, refl, sym, ◌∙◌, ap, subst, arith, zero-add, ◌⊎◌, inl, inr}
+use Rattle.std.proofs.lemmas.Bool.{or_cases, or_left, or_right, and_parts, not-false, false≢true, false_from_ne_true}
 use Rattle.std.proofs.lemmas.List.{take_all}
 use Rattle.std.proofs.lemmas.List.Elements.{All-contains, All-from_recursion}
+use Rattle.std.proofs.lemmas.List.Folds.{Any-from_list_any}
+use Rattle.std.proofs.lemmas.List.FromFn.{length-range_with_len, get_or-range_with_len}
+use Rattle.std.specs.List.{list_any, Any, range_with_len}
 use Rattle.fy_locality.specs.declared.locality.Locality.{Locality}
 use Rattle.fy_policy.specs.Tree.{Tree}
 use Rattle.fy_policy.specs.Sat.{Sat}
-use Rattle.fy_policy.specs.Laws.{MoreSatisfies, SomeHolderIsLeft}
+use Rattle.fy_policy.specs.Laws.{MoreSatisfies, MoreOfMapSatisfies, SomeHolderIsLeft}
 use Rattle.fy_decide.specs.Safety.{AreShort}
 use Rattle.fy_acts.specs.declared.entry.Entry.{Entry}
 use Rattle.fy_cluster.specs.Setup.{Setup}
 use Rattle.fy_cluster.specs.History.{ProcessSet, heals, history, destroyed}
-use Rattle.fy_cluster.specs.Stores.{Moment, known_destroyed, IsCovered, HoldersAreLeft}
+use Rattle.fy_cluster.specs.Stores.{Moment, IsCovered, HoldersAreLeft}
 use Rattle.fy_cluster.specs.Survival.{DestroyedShort, FrontsLegal, EntryAddsStep, NextLegal}
 use Rattle.fy_holders.specs.Destroyed.{destroyed_at, destroyed_since}
 use Rattle.fy_holders.specs.Blames.{KeepsTwo, IsByTwo, IsAckedFirst, ThreeKeepTwo, HoldersAreLeftByTwo, StoreLostIt, OneOfThreeIsBroken, SomeHealIsBelieved}
+use Rattle.fy_cluster.proofs.Records.{any_at}
 use Rattle.fy_holders.proofs.Positions.{since_at, since_from, since_more, since_earlier, since_end, stays_through, healed_at}
 
 pub three_keep_two : ThreeKeepTwo
 three_keep_two c before after keeps = record {
   grows = keeps.grows;
-  dies = λ r p held gone.
+  dies = λ r p a held gone.
       let n = ap length keeps.grows.1 ∙ length-append before.journal keeps.grows.0 in
-      since_end c after.journal (length before.journal) p (omega arith) (keeps.dies r p held gone);
+      elim (keeps.dies r p a held gone) [
+        | inl d ↦ inl (since_end c after.journal (length before.journal) p (omega arith) d)
+        | inr k ↦ inr k
+      ];
   acknowledges = keeps.acknowledges;
 }
 
 -- ---- holders that were never destroyed
 
 -- a record is covered when it is acknowledged
-covered_first : (c : Setup) (at : ℕ → Moment) → IsByTwo c at → (k r : ℕ) → IsAckedFirst at k r → IsCovered c (at k) r
-covered_first c at two zero r acked = two.begins r acked.now
-covered_first c at two (suc j) r acked =
+covered_first : (c : Setup) (at : ℕ → Moment) → IsByTwo c at → (k n r : ℕ) → k ≤ n → IsAckedFirst at k n r → IsCovered c (at k) r
+covered_first c at two zero n r later acked = two.begins r (acked.since zero (omega arith) later)
+covered_first c at two (suc j) n r later acked =
     let e : j + 1 ≡ suc j = omega arith in
     let step : KeepsTwo c (at j) (at (suc j)) = subst (λ m. KeepsTwo c (at j) (at m)) e (two.goes_on j) in
-    step.acknowledges r (acked.first j (omega arith)) acked.now
+    step.acknowledges r (acked.first j (omega arith)) (acked.since (suc j) (omega arith) later)
 
--- between two moments the journal grows, and who held a record or was destroyed at the first holds
--- it at the second or was destroyed since
+-- those who hold the record or were destroyed since a position
+abbrev kept_since : Setup → ℕ → Moment → ℕ → ProcessSet
+kept_since c m now r p = now.holders r p || destroyed_since c now.journal m p
+
+-- between two moments the journal grows, and at the second those who hold the record or were
+-- destroyed since the first satisfy a policy
 record Stays (c : Setup) (first now : Moment) (r : ℕ) : Type 0 where
   grown : length first.journal ≤ length now.journal
-  stays : (p : ℕ) → (first.holders r p || known_destroyed c first p) ≡ true → (now.holders r p || destroyed_since c now.journal (length first.journal) p) ≡ true
+  policy : Tree
+  given : Contains c.policies policy
+  sat : Sat c.processes policy (kept_since c (length first.journal) now r)
 
-stays_next : (c : Setup) (first before after : Moment) (r : ℕ) → KeepsTwo c before after → Stays c first before r → Stays c first after r
-stays_next c first before after r step was = record {
-  grown = let g = was.grown in omega (arith, longer);
-  stays = λ p e. elim (or_cases (before.holders r p) _ (was.stays p e)) [
-    | inl held ↦ kept p held (after.holders r p) refl
-    | inr lost ↦ or_right (after.holders r p) _ (subst (λ (j : List Entry). destroyed_since c j (length first.journal) p ≡ true) (sym step.grows.1) (since_more c before.journal step.grows.0 (length first.journal) p lost))
-  ];
+-- what is covered now is kept since each position before
+covered_stays : MoreOfMapSatisfies → (c : Setup) (first now : Moment) (r : ℕ) → length first.journal ≤ length now.journal → IsCovered c now r → Stays c first now r
+covered_stays more c first now r grown covered = record {
+  grown = grown;
+  policy = covered.0;
+  given = covered.1;
+  sat = more c.processes covered.0 _ (kept_since c (length first.journal) now r) (λ p within e. elim (or_cases (now.holders r p) _ e) [
+    | inl holds ↦ or_left _ _ holds
+    | inr d ↦ or_right (now.holders r p) _ (since_end c now.journal (length first.journal) p grown d)
+  ]) covered.2;
 }
+
+-- where none of the first n passes, none does
+none_at : (f : ProcessSet) (n : ℕ) → list_any f (range_with_len 0 n) ≡ false → (p : ℕ) → p < n → f p ≡ false
+none_at f n none p within = false_from_ne_true _ (λ y. false≢true (sym none ∙ any_at f (range_with_len 0 n) p there y))
   where
+    there : Contains (range_with_len 0 n) p
+    there = (p, rw (length-range_with_len 0 n) within, get_or-range_with_len 0 n p p within ∙ zero-add p)
+
+-- whoever doesn't stay in left
+left_or_stays : (was is : Bool) → was ≡ true → (was && not is) ≡ false → is ≡ true
+left_or_stays true is w e = not-false is e
+left_or_stays false is w e = absurd (false≢true w)
+
+stays_next : MoreOfMapSatisfies → (c : Setup) (first before after : Moment) (r : ℕ) → KeepsTwo c before after → before.acknowledged r ≡ true → Stays c first before r → Stays c first after r
+stays_next more c first before after r step a was = at (list_any f (range_with_len 0 (length c.processes))) refl
+  where
+    m : ℕ
+    m = length first.journal
+
+    -- whoever was kept and isn't any more
+    f : ProcessSet
+    f p = kept_since c m before r p && not (kept_since c m after r p)
+
     longer : length after.journal ≡ length before.journal + length step.grows.0
     longer = ap length step.grows.1 ∙ length-append before.journal step.grows.0
 
-    kept : (p : ℕ) → before.holders r p ≡ true → (b : Bool) → after.holders r p ≡ b → (after.holders r p || destroyed_since c after.journal (length first.journal) p) ≡ true
-    kept p held true is = or_left _ _ is
-    kept p held false is = or_right (after.holders r p) _ (since_earlier c after.journal (length first.journal) (length before.journal) p was.grown (step.dies r p held is))
+    grown : m ≤ length after.journal
+    grown = let g = was.grown in omega (arith, longer)
 
-stays_from : (c : Setup) (at : ℕ → Moment) → IsByTwo c at → (k r j : ℕ) → Stays c (at k) (at (k + j)) r
-stays_from c at two k r zero =
+    since : (p : ℕ) → destroyed_since c before.journal m p ≡ true → destroyed_since c after.journal m p ≡ true
+    since p lost = subst (λ (j : List Entry). destroyed_since c j m p ≡ true) (sym step.grows.1) (since_more c before.journal step.grows.0 m p lost)
+
+    lacks : (p : ℕ) → f p ≡ true → kept_since c m after r p ≡ true → Stays c first after r
+    lacks p e k = absurd (false≢true (ap not (sym k) ∙ (and_parts (kept_since c m before r p) _ e).1))
+
+    -- it held the record, and lost it
+    lost : (p : ℕ) → f p ≡ true → before.holders r p ≡ true → (b : Bool) → after.holders r p ≡ b → Stays c first after r
+    lost p e held true is = lacks p e (or_left _ _ is)
+    lost p e held false is = elim (step.dies r p a held is) [
+      | inl d ↦ lacks p e (or_right (after.holders r p) _ (since_earlier c after.journal m (length before.journal) p was.grown d))
+      | inr k ↦ covered_stays more c first after r grown k
+    ]
+
+    at : (b : Bool) → list_any f (range_with_len 0 (length c.processes)) ≡ b → Stays c first after r
+    at true some =
+        let found : Any (λ p. f p ≡ true) (range_with_len 0 (length c.processes)) = Any-from_list_any f (range_with_len 0 (length c.processes)) some in
+        let p : ℕ = found.1 in
+        elim (or_cases (before.holders r p) _ (and_parts (kept_since c m before r p) _ found.4).0) [
+          | inl held ↦ lost p found.4 held (after.holders r p) refl
+          | inr d ↦ lacks p found.4 (or_right (after.holders r p) _ (since p d))
+        ]
+    at false none = record {
+      grown = grown;
+      policy = was.policy;
+      given = was.given;
+      sat = more c.processes was.policy _ (kept_since c m after r) (λ p within k. left_or_stays _ _ k (none_at f (length c.processes) none p within)) was.sat;
+    }
+
+stays_from : MoreOfMapSatisfies → (c : Setup) (at : ℕ → Moment) → IsByTwo c at → (k r j : ℕ) → IsAckedFirst at k (k + j) r → Stays c (at k) (at (k + j)) r
+stays_from more c at two k r zero acked =
     let e : k ≡ k + zero = omega arith in
     let same : length (at k).journal ≤ length (at k).journal = omega arith in
-    subst (λ n. Stays c (at k) (at n) r) e (record {
-      grown = same;
-      stays = λ p held. elim (or_cases ((at k).holders r p) _ held) [
-        | inl holds ↦ or_left _ _ holds
-        | inr d ↦ or_right ((at k).holders r p) _ (since_end c (at k).journal (length (at k).journal) p same d)
-      ];
-    })
-stays_from c at two k r (suc j) =
+    subst (λ n. Stays c (at k) (at n) r) e (covered_stays more c (at k) (at k) r same (covered_first c at two k (k + zero) r (omega arith) acked))
+stays_from more c at two k r (suc j) acked =
     let e : (k + j) + 1 ≡ k + suc j = omega arith in
-    subst (λ n. Stays c (at k) (at n) r) e (stays_next c (at k) (at (k + j)) (at ((k + j) + 1)) r (two.goes_on (k + j)) (stays_from c at two k r j))
+    let before : IsAckedFirst at k (k + j) r = record { since = λ i from to. acked.since i from (omega (arith, to)); first = acked.first } in
+    subst (λ n. Stays c (at k) (at n) r) e (stays_next more c (at k) (at (k + j)) (at ((k + j) + 1)) r (two.goes_on (k + j)) (acked.since (k + j) (omega arith) (omega arith)) (stays_from more c at two k r j before))
 
-pub holders_are_left_by_two : MoreSatisfies → SomeHolderIsLeft → HoldersAreLeftByTwo
+pub holders_are_left_by_two : MoreOfMapSatisfies → SomeHolderIsLeft → HoldersAreLeftByTwo
 holders_are_left_by_two more some_left c at two k n r later acked short =
     let e : k + (n - k) ≡ n = omega arith in
-    let stays : Stays c (at k) (at n) r = subst (λ m. Stays c (at k) (at m) r) e (stays_from c at two k r (n - k)) in
-    let covered = covered_first c at two k r acked in
-    let P : Tree = covered.0 in
+    let to : IsAckedFirst at k (k + (n - k)) r = subst (λ m. IsAckedFirst at k m r) (sym e) acked in
+    let stays : Stays c (at k) (at n) r = subst (λ m. Stays c (at k) (at m) r) e (stays_from more c at two k r (n - k) to) in
+    let P : Tree = stays.policy in
     let since : ProcessSet = destroyed_since c (at n).journal (length (at k).journal) in
-    let is_short = All-contains (λ P. Sat c.processes P since → ⊥) c.policies P (All-from_recursion (λ P. Sat c.processes P since → ⊥) c.policies short) covered.1 in
-    let sat = more c.processes P _ (λ p. (at n).holders r p || since p) stays.stays covered.2 in
-    let found = some_left c.processes P ((at n).holders r) since sat is_short in
+    let is_short = All-contains (λ P. Sat c.processes P since → ⊥) c.policies P (All-from_recursion (λ P. Sat c.processes P since → ⊥) c.policies short) stays.given in
+    let found = some_left c.processes P ((at n).holders r) since stays.sat is_short in
     record { holder = found.0; there = found.1; holds = found.2; never = found.3 }
 
 pub store_lost_it : HoldersAreLeftByTwo → StoreLostIt

@@ -1,6 +1,6 @@
 -- Whose fault a lost record is, and what a store kept that lost none. Positions and moments are as
 -- in Destroyed and in the cluster's Stores.
-use Rattle.std.specs.Prelude.{◌≡◌, ℕ, ◌+◌, ◌<◌, ◌≤◌, List, ◌++◌, length, Some, IsTrue, IsFalse, slice_get}
+use Rattle.std.specs.Prelude.{◌≡◌, ℕ, ◌+◌, ◌<◌, ◌≤◌, List, ◌++◌, length, Some, IsTrue, IsFalse, slice_get, ◌⊎◌}
 use Rattle.fy_decide.specs.Safety.{AreShort}
 use Rattle.fy_acts.specs.declared.entry.Entry.{Entry}
 use Rattle.fy_cluster.specs.Setup.{Setup, IsMet}
@@ -23,14 +23,16 @@ IsToBlame c journal position Store = AreShortSince c journal position
 IsToBlame c journal position StoreOrWhole = AreShortSince c journal position → ⊥
 
 -- the first two premises, from one moment to the next:
--- 1. A process that had a record and hasn't any more was destroyed by the guard's journal at some
---    position between the two moments. It may be healed since, whether that was right or wrong.
+-- 1. A process that had an acknowledged record and hasn't any more was destroyed by the guard's
+--    journal at some position between the two moments, or the record is covered without it. It may
+--    be healed since, whether that was right or wrong.
 -- 2. The store acknowledges a record only if its holders together with the destroyed satisfy one of
 --    the policies.
 pub record KeepsTwo (c : Setup) (before after : Moment) : Type 0 where
   pub grows : (more : List Entry) × (after.journal ≡ before.journal ++ more)
-  pub dies : (r p : ℕ) → IsTrue (before.holders r p) → IsFalse (after.holders r p) →
-      IsTrue (destroyed_since c after.journal (length before.journal) p)
+  pub dies : (r p : ℕ) → IsTrue (before.acknowledged r) → IsTrue (before.holders r p) →
+      IsFalse (after.holders r p) →
+      IsTrue (destroyed_since c after.journal (length before.journal) p) ⊎ IsCovered c after r
   pub acknowledges : (r : ℕ) → IsFalse (before.acknowledged r) → IsTrue (after.acknowledged r) →
       IsCovered c after r
 
@@ -40,9 +42,9 @@ pub record IsByTwo (c : Setup) (at : ℕ → Moment) : Type 0 where
   pub begins : (r : ℕ) → IsTrue ((at 0).acknowledged r) → IsCovered c (at 0) r
   pub goes_on : (n : ℕ) → KeepsTwo c (at n) (at (n + 1))
 
--- the record is acknowledged at the moment, and at none before
-pub record IsAckedFirst (at : ℕ → Moment) (k r : ℕ) : Type 0 where
-  pub now : IsTrue ((at k).acknowledged r)
+-- the record is acknowledged from the first of these moments to the second, and at none before
+pub record IsAckedFirst (at : ℕ → Moment) (k n r : ℕ) : Type 0 where
+  pub since : (j : ℕ) → k ≤ j → j ≤ n → IsTrue ((at j).acknowledged r)
   pub first : (j : ℕ) → j < k → IsFalse ((at j).acknowledged r)
 
 -- the record has a holder that was never destroyed since a position
@@ -61,14 +63,14 @@ ThreeKeepTwo =
 -- policy, the record has a holder that was never destroyed since, whatever the heals were worth
 abbrev pub HoldersAreLeftByTwo : Type 0
 HoldersAreLeftByTwo =
-    (c : Setup) (at : ℕ → Moment) → IsByTwo c at → (k n r : ℕ) → k ≤ n → IsAckedFirst at k r →
+    (c : Setup) (at : ℕ → Moment) → IsByTwo c at → (k n r : ℕ) → k ≤ n → IsAckedFirst at k n r →
     AreShortSince c (at n).journal (length (at k).journal) →
     IsHeldSince c (length (at k).journal) (at n) r
 
 -- and so, where nobody holds it who was never destroyed since, the store broke one of the two
 abbrev pub StoreLostIt : Type 0
 StoreLostIt =
-    (c : Setup) (at : ℕ → Moment) (k n r : ℕ) → k ≤ n → IsAckedFirst at k r →
+    (c : Setup) (at : ℕ → Moment) (k n r : ℕ) → k ≤ n → IsAckedFirst at k n r →
     AreShortSince c (at n).journal (length (at k).journal) →
     (IsHeldSince c (length (at k).journal) (at n) r → ⊥) → IsByTwo c at → ⊥
 

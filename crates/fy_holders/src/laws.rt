@@ -16,7 +16,7 @@ pub fn three_keep_two()
 pub fn holders_are_left_by_two()
     ensures { HoldersAreLeftByTwo }
 {
-    policy::more_satisfies();
+    policy::more_of_map_satisfies();
     policy::some_holder_is_left();
 }
 

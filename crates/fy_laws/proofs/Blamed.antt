@@ -30,22 +30,22 @@ emptied_since p had = elim (first_or_other 2 [] p had) [
 goes_on : (n : ℕ) → KeepsTwo six (of.misled n) (of.misled (suc n))
 goes_on zero = record {
   grows = (stores.zone_emptied, refl);
-  dies = λ r p. struck_since p;
+  dies = λ r p a had lost. inl (struck_since p had lost);
   acknowledges = λ r was is. absurd (true≢false was);
 }
 goes_on (suc zero) = record {
   grows = (_, refl);
-  dies = λ r p had lost. absurd (true≢false (sym had ∙ lost));
+  dies = λ r p a had lost. absurd (true≢false (sym had ∙ lost));
   acknowledges = λ r was is. absurd (true≢false was);
 }
 goes_on (suc (suc zero)) = record {
   grows = (_, refl);
-  dies = λ r p had lost. emptied_since p had;
+  dies = λ r p a had lost. inl (emptied_since p had);
   acknowledges = λ r was is. absurd (true≢false was);
 }
 goes_on (suc (suc (suc n))) = record {
   grows = ([], refl);
-  dies = λ r p had lost. absurd (false≢true had);
+  dies = λ r p a had lost. absurd (false≢true had);
   acknowledges = λ r was is. absurd (true≢false was);
 }
 

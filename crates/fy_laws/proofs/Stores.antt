@@ -33,7 +33,7 @@ covered journal r = (in_two_zones, (0, ltb-true 0 1 refl, refl), two_zones (dest
 writes : KeepsPremises six of.unwritten of.written
 writes = record {
   grows = ([], refl);
-  dies = λ r p had lost. absurd (false≢true had);
+  dies = λ r p a had lost. absurd (false≢true had);
   acknowledges = λ r was is. covered [] r;
   heals = λ p r healed a. absurd (false≢true healed.was);
 }
@@ -51,7 +51,7 @@ only_struck p had lost = elim (first_or_other 0 (2 ∷ []) p had) [
 strikes : KeepsPremises six of.written of.struck_once
 strikes = record {
   grows = (of.zone_emptied, refl);
-  dies = λ r p. only_struck p;
+  dies = λ r p a had lost. inl (only_struck p had lost);
   acknowledges = λ r was is. absurd (true≢false was);
   heals = λ p r healed a. absurd (false≢true healed.was);
 }
@@ -62,7 +62,7 @@ first_had p had lost = absurd (true≢false (sym had ∙ (or_parts (0 == p) (of.
 copies : KeepsPremises six of.struck_once of.copied_and_healed
 copies = record {
   grows = (_, refl);
-  dies = λ r p. first_had p;
+  dies = λ r p a had lost. inl (first_had p had lost);
   acknowledges = λ r was is. absurd (true≢false was);
   heals = λ p r healed a. inr (covered of.first_healed r);
 }
@@ -70,7 +70,7 @@ copies = record {
 heals_beside : KeepsPremises six of.copied_and_healed of.healed_beside
 heals_beside = record {
   grows = (_, refl);
-  dies = λ r p had lost. absurd (true≢false (sym had ∙ lost));
+  dies = λ r p a had lost. absurd (true≢false (sym had ∙ lost));
   acknowledges = λ r was is. absurd (true≢false was);
   heals = λ p r healed a. inr (covered of.both_healed r);
 }
@@ -78,7 +78,7 @@ heals_beside = record {
 stays : KeepsPremises six of.healed_beside of.healed_beside
 stays = record {
   grows = ([], refl);
-  dies = λ r p had lost. absurd (true≢false (sym had ∙ lost));
+  dies = λ r p a had lost. absurd (true≢false (sym had ∙ lost));
   acknowledges = λ r was is. absurd (true≢false was);
   heals = λ p r healed a. inr (covered of.both_healed r);
 }
@@ -114,6 +114,25 @@ acknowledged_then n r = let e : suc n ≡ n + 1 = omega arith in subst (λ m. (o
     at (suc (suc zero)) = refl
     at (suc (suc (suc n))) = refl
 
+-- ---- what a heal without a copy may take
+
+other_zones : (others : ProcessSet) → Sat six_processes in_two_zones (with_set (of.these (2 ∷ 4 ∷ [])) others)
+unfolding Sat IsDistinct
+other_zones others = record {
+  names = codes "z1" ∷ codes "z2" ∷ [];
+  many = leb-true 2 2 refl;
+  different = ((refl, tt), (tt, tt));
+  each = (((2, refl), (2, ltb-true 2 6 refl, refl)), (((4, refl), (4, ltb-true 4 6 refl, refl)), tt));
+}
+
+pub healed_rightly : KeepsPremises six of.in_three_zones of.healed_beside_two
+healed_rightly = record {
+  grows = (of.first_healed, refl);
+  dies = λ r p a had lost. inr (in_two_zones, (0, ltb-true 0 1 refl, refl), other_zones (destroyed (history six of.first_healed)));
+  acknowledges = λ r was is. absurd (true≢false was);
+  heals = λ p r healed a. absurd (false≢true healed.was);
+}
+
 -- ---- what breaks a premise
 
 -- the six have one policy
@@ -127,8 +146,12 @@ uncovered law now r short is =
     let sat : Sat six_processes in_two_zones s = subst (λ P. Sat six_processes P s) (only_policy is.0 is.1.0 is.1.1 is.1.2) is.2 in
     false≢true (sym short ∙ (law six_processes in_two_zones s).1 sat)
 
-pub unasked : KeepsPremises six of.written of.died_unasked → ⊥
-unasked kept = false≢true (kept.dies 0 2 refl refl)
+pub unasked : TestIsSatisfaction → KeepsPremises six of.written of.died_unasked → ⊥
+unfolding cluster_on_literals
+unasked law kept = elim (kept.dies 0 2 refl refl refl) [
+  | inl is ↦ false≢true is
+  | inr is ↦ uncovered law of.died_unasked 0 refl is
+]
 
 pub too_soon : TestIsSatisfaction → KeepsPremises six of.unwritten of.one_zone_has_it → ⊥
 unfolding cluster_on_literals

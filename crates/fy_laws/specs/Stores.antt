@@ -64,6 +64,16 @@ stored (suc (suc zero)) = struck_once
 stored (suc (suc (suc zero))) = copied_and_healed
 stored (suc (suc (suc (suc n)))) = healed_beside
 
+-- ---- what a heal without a copy may take
+
+-- processes of three zones have the records, where two are enough
+abbrev pub in_three_zones : Moment
+in_three_zones = moment [] (0 ∷ 2 ∷ 4 ∷ []) true
+
+-- the first of them is emptied, started, and healed without a copy
+abbrev pub healed_beside_two : Moment
+healed_beside_two = moment first_healed (2 ∷ 4 ∷ []) true
+
 -- ---- moments that break a premise
 
 -- a process dies that nobody struck

@@ -2,7 +2,7 @@
 ghost use Rattle.std.specs.Prelude.{ℕ, ◌+◌};
 ghost use Rattle.fy_cluster.specs.Stores.{KeepsPremises, IsGuarded, IsHeld};
 ghost use Rattle.fy_laws.specs.Clusters.{six};
-ghost use Rattle.fy_laws.specs.Stores.{stored, unwritten, written, struck_once, died_unasked, one_zone_has_it, healed_without, last_holder_emptied};
+ghost use Rattle.fy_laws.specs.Stores.{stored, unwritten, written, struck_once, in_three_zones, healed_beside_two, died_unasked, one_zone_has_it, healed_without, last_holder_emptied};
 
 use super::every;
 
@@ -16,10 +16,18 @@ pub fn stored()
     fy_cluster::laws::holders_are_left();
 }
 
+/// A process is emptied, started, and healed without its copy, between two moments: the record is
+/// covered without it, so the premises are kept.
+pub fn healed_beside_two()
+    ensures { KeepsPremises six in_three_zones healed_beside_two }
+{}
+
 /// A process dies that nobody struck.
 pub fn died_unasked()
     ensures { KeepsPremises six written died_unasked → ⊥ }
-{}
+{
+    fy_policy::laws::test_is_satisfaction();
+}
 
 /// A record is acknowledged with copies in one zone, and none is destroyed.
 pub fn acknowledged_too_soon()
