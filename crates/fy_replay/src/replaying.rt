@@ -1,6 +1,6 @@
 //! Checks a journal by replaying it: its acts are made once more, and the replies compared. No
 //! entry is kept.
-ghost use Rattle.std.specs.Prelude.{◌≡◌, ◌↔◌, List, [], ◌∷◌, ◌++◌, length, None, IfOk, IfSome, OnOk, OnErr, IsSome, IsTrue};
+ghost use Rattle.std.specs.Prelude.{◌≡◌, ◌↔◌, ◌<◌, List, [], ◌∷◌, ◌++◌, length, None, IfOk, IfSome, OnOk, OnErr, IsSome, IsTrue};
 ghost use Rattle.fy_acts.specs.declared.entry.Entry.{Entry};
 ghost use Rattle.fy_cluster.specs.Setup.{Setup};
 ghost use Rattle.fy_cluster.specs.Versions.{LegalUnder};
@@ -23,6 +23,7 @@ fn comes_next(state: &mut ClusterState, version: Version, entry: Entry) -> Resul
     ensures entered { IfOk result (λ next. IsTrue next → state.new
         ≡ record state.old { journal = state.old.journal ++ entry ∷ [] }) }
     ensures none { OnErr result (state.new ≡ state.old) }
+    ensures room { OnErr result (length state.old.journal < state.old.setup.limit) }
 {
     laws::versions();
     fy_acts::laws::equal_is_the_same();
@@ -121,7 +122,8 @@ impl Replayer {
     ///
     /// # Errors
     ///
-    /// `AllocError` where an allocation for its act fails. The entry isn't checked then.
+    /// `AllocError` where an allocation for its act fails, and never for an entry whose place is the
+    /// journal limit, which is bad. The entry isn't checked then.
     pub fn enter(&mut self, entry: Entry) -> Result<(), AllocError>
         requires { self.old.first_bad ≡ None → entry.at ≡ length self.old.execution.journal }
         ensures entered { OnOk result ((setup : Setup) (so_far : List Entry)
@@ -132,6 +134,8 @@ impl Replayer {
         ensures place { OnOk result (self.old.first_bad ≡ None
             → IfSome self.new.first_bad (λ at. at ≡ entry.at)) }
         ensures same { OnErr result (self.new ≡ self.old) }
+        ensures room { OnErr result
+            (length self.old.execution.journal < self.old.execution.setup.limit) }
     {
         if self.first_bad.is_some() {
             return Ok(());
