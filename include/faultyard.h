@@ -47,8 +47,8 @@ extern "C" {
 
 /* The version of this header: 10,000 times its first number, 100 times the second, and the third.
  * fy_version answers that of the library. */
-#define FAULTYARD_VERSION 10100
-#define FAULTYARD_VERSION_TEXT "1.1.0"
+#define FAULTYARD_VERSION 20000
+#define FAULTYARD_VERSION_TEXT "2.0.0"
 
 /* A guard. Only the calls below write it; all zeros, it is closed. */
 typedef struct fy_guard {

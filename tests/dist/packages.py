@@ -356,8 +356,9 @@ def archive_is_found_by_cmake() -> None:
     """And a program builds by each of its targets, and runs."""
     need("cmake", "cc")
     config = unpacked() / "share/doc/faultyard/examples/c6.toml"
+    major = int(version().partition(".")[0])
     (room() / "verdict.c").write_text((ROOT / "tests/dist/verdict.c").read_text())
-    for target, version_asked in (("faultyard", "1"), ("static", version())):
+    for target, version_asked in (("faultyard", major), ("static", version())):
         source, built = room() / f"CMakeLists.{target}", room() / f"by-{target}"
         source.mkdir()
         (source / "CMakeLists.txt").write_text(
@@ -372,7 +373,7 @@ def archive_is_found_by_cmake() -> None:
         assert told.stdout == b"a reboot, by policy 0\n", (target, told)
     (source / "CMakeLists.txt").write_text(
         "cmake_minimum_required(VERSION 3.13)\nproject(verdict C)\n"
-        "find_package(faultyard 2 QUIET)\n"
+        f"find_package(faultyard {major + 1} QUIET)\n"
         'message(STATUS "of a later version: ${faultyard_FOUND}")\n'
     )
     told = said("cmake", "-S", source, "-B", room() / "later", f"-DCMAKE_PREFIX_PATH={unpacked()}")

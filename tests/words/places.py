@@ -917,7 +917,7 @@ LOSSES = tuple(
 NUMBER_OF_C = Place(
     "crates/fy_c/src/asking.rt",
     "version",
-    versions(r"ensures { result ≡ (1\d{4}) }"),
+    versions(r"ensures { result ≡ (\d{5}) }"),
     lambda table: {str(number_of(table["version"]))},
 )
 

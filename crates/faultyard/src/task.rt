@@ -411,7 +411,7 @@ fn bare<'a>(alloc: Global) -> Command<'a>
             "Injects faults into a simulated storage cluster, as far as its replication bears them",
         )
         .after_help(EXAMPLES)
-        .version("1.1.0")
+        .version("2.0.0")
         .subcommand_required(true)
 }
 

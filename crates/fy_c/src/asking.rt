@@ -140,12 +140,12 @@ pub extern "C" fn fy_sight(guard: &mut FyGuard, seen: &mut FySeen)
 }
 
 /// The three numbers of the library's version.
-const VERSION: [u32; 3] = [1, 1, 0];
+const VERSION: [u32; 3] = [2, 0, 0];
 
 /// The library's version: 10,000 times its first number, 100 times the second, and the third.
 #[unsafe(no_mangle)]
 pub extern "C" fn fy_version() -> u32
-    ensures { result ≡ 10100 }
+    ensures { result ≡ 20000 }
 {
     VERSION[0] * 10_000 + VERSION[1] * 100 + VERSION[2]
 }

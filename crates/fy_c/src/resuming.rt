@@ -1,5 +1,5 @@
 //! Guards opened where an audit ends.
-ghost use Rattle.std.specs.Prelude.{◌≡◌, ◌↔◌, ◌∷◌, [], ◌++◌, length, None, Some, Ok, IfOk, IfErr, IfSome, IsTrue};
+ghost use Rattle.std.specs.Prelude.{◌≡◌, ◌↔◌, ◌<◌, ◌∷◌, [], ◌++◌, length, None, Some, Ok, IfOk, IfErr, IfSome, IsTrue, OnErr};
 ghost use Rattle.fy_acts.specs.declared.entry.Entry.{Entry};
 ghost use Rattle.fy_cluster.specs.Replies.{Legal};
 ghost use Rattle.fy_acts.specs.declared.version.Version.TheVariants.{Second};
@@ -28,6 +28,7 @@ fn comes_next(cluster: &mut Cluster, entry: Entry) -> Result<bool, AllocError>
     ensures entered { IfOk result (λ next. IsTrue next → cluster.new
         ≡ record cluster.old { journal = cluster.old.journal ++ entry ∷ [] }) }
     ensures setup { cluster.new.setup ≡ cluster.old.setup }
+    ensures room { OnErr result (length cluster.old.journal < cluster.old.setup.limit) }
 {
     laws::one_entry_more();
     fy_acts::laws::equal_is_the_same();

@@ -32,7 +32,7 @@ def installed(folder):
     Path(prefix, "include").symlink_to(common.ROOT / "include")
     Path(prefix, "lib").symlink_to(Path(common.LIBRARY or "/none").parent)
     text = (common.ROOT / "include/faultyard.pc.in").read_text()
-    text = text.replace("@PREFIX@", str(prefix)).replace("@VERSION@", "1.1.0")
+    text = text.replace("@PREFIX@", str(prefix)).replace("@VERSION@", "2.0.0")
     common.written(prefix, "faultyard.pc", text)
     return {**os.environ, "PKG_CONFIG_PATH": str(prefix), "LD_LIBRARY_PATH": f"{prefix}/lib"}
 

@@ -140,17 +140,17 @@ class Poor(common.Folder, unittest.TestCase):
         return path
 
     def test_a_library_of_another_major_version_is_refused(self):
-        for number, told in ((20_000, "2.0.0"), (9_912, "0.99.12")):
+        for number, told in ((30_000, "3.0.0"), (19_912, "1.99.12")):
             path = self.library(f"-DVERSION={number}")
             for ask in (library.version, lambda it: self.guard(library=it)):
                 with self.assertRaises(faultyard.ProtocolError) as caught:
                     ask(path)
-                wanted = f"{path} is faultyard {told}, and this package calls 1.x"
+                wanted = f"{path} is faultyard {told}, and this package calls 2.x"
                 self.assertEqual(str(caught.exception), wanted)
 
     def test_a_library_of_a_later_minor_version_is_none(self):
-        its = library.version(self.library("-DVERSION=19907"))
-        self.assertEqual((its, str(its)), ((1, 99, 7), "1.99.7"))
+        its = library.version(self.library("-DVERSION=29907"))
+        self.assertEqual((its, str(its)), ((2, 99, 7), "2.99.7"))
 
     def test_want_of_memory_to_say_where_the_fault_is(self):
         with self.assertRaises(faultyard.OutOfMemory):

@@ -83,7 +83,7 @@ CALLS: Dict[str, Tuple[Any, List[Any]]] = {
 """The calls of include/faultyard.h by which all is asked: what each answers and takes."""
 
 # From include/faultyard.h.
-MAJOR = 1
+MAJOR = 2
 DONE, NO_MEMORY, JOURNAL_FULL, SHORT, UNWRITTEN = 0, 1, 2, 4, 5
 LINE_TOO_LONG, LINE_SYNTAX, NO_HEADER, AUDIT_TOO_LONG, REFUTED = 10, 11, 20, 21, 22
 LINE_FAULTS = {LINE_TOO_LONG: "TooLong", LINE_SYNTAX: "Syntax", NO_HEADER: "Header"}
@@ -110,7 +110,7 @@ USUAL_PLAN = 64
 
 
 class Version(NamedTuple):
-    """A version of the library; as text `1.1.0`."""
+    """A version of the library; as text `2.0.0`."""
 
     major: int
     minor: int
