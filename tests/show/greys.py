@@ -1,5 +1,6 @@
 """Whether a picture is readable in grey: in light and in dark the fills of every two states, and of
-a state and the paper, differ, and each glyph stands out on each state."""
+a state and the paper, differ, and each glyph stands out on each state and on the paper. A glyph is
+the same in both: what is black in light isn't white in the dark."""
 
 from __future__ import annotations
 
@@ -62,18 +63,22 @@ def check_own() -> None:
 
 def check(sheet: xml.Element) -> None:
     """Every two states and the paper differ in grey by LEAST_CONTRAST. The fill of a glyph or its
-    rim stands out on each state."""
+    rim stands out on each of them, and a glyph is the same in light and in dark."""
     [legend] = [it for it in sheet.iter(SVG + "g") if it.get("class") == "legend"]
     states = sorted(it.get("class") or "" for it in legend.iter(SVG + "rect"))
     assert states == ["clogged", "down", "emptied", "gone", "up"], states
+    seen = []
     for style in styles_of(sheet):
         fills = {name: style["." + name]["fill"] for name in [*states, "paper"]}
         for one, other in itertools.combinations(fills, 2):
             told = contrast(fills[one], fills[other])
             assert told >= LEAST_CONTRAST, f"{one} and {other} differ by {told:.2f} in grey"
         glyphs = {f"{it} glyph": style[".order"] | style["." + it] for it in ("filled", "hollow")}
+        seen.append(dict(glyphs))
         if ".otherwise" in style:
             glyphs["ring"] = style[".otherwise"]
-        for (name, glyph), state in itertools.product(glyphs.items(), states):
+        for (name, glyph), state in itertools.product(glyphs.items(), fills):
             told = max(contrast(glyph[it], fills[state]) for it in ("fill", "stroke"))
             assert told >= GLYPH_CONTRAST, f"a {name} on {state} has {told:.2f}"
+    light, dark = seen
+    assert light == dark, f"glyphs are {light} in light, and {dark} in the dark"

@@ -15,7 +15,8 @@ use std::alloc::AllocError;
 
 /// Hues that the colour-blind can tell apart (Okabe and Ito), in steps of lightness: the states and
 /// the paper differ in grey, every two of them, by a contrast of 1.6 (WCAG). The paper is light
-/// and, where the viewer asks for it, dark; a filled glyph has a rim of its colour.
+/// and, where the viewer asks for it, dark. A glyph is the same on both: a filled one is black with
+/// a white rim, a hollow one white with a black rim.
 const STYLE: &str = "<style>
 .paper { fill: #ffffff; }
 text { font: 11px sans-serif; fill: #1a1a1a; }
@@ -29,10 +30,8 @@ text { font: 11px sans-serif; fill: #1a1a1a; }
 .policy { fill: none; stroke: #1a1a1a; stroke-width: 1.5; }
 .bad { stroke: #d00000; stroke-width: 4; } .told { fill: #d00000; }
 @media (prefers-color-scheme: dark) {
-  .paper, .hollow { fill: #161616; }
-  text, .filled { fill: #e8e8e8; }
-  .order, .tick, .policy { stroke: #e8e8e8; }
-  .filled { stroke: #161616; }
+  .paper { fill: #161616; } text { fill: #e8e8e8; }
+  .tick, .policy { stroke: #e8e8e8; }
   .gone { fill: #3b3b3b; } .emptied { fill: #c44f9a; }
   .axis { stroke: #484848; } .acked { stroke: #7cc4ee; }
 }
