@@ -1,8 +1,9 @@
 //! Audits out: the text of a journal, by a buffer that is filled and handed on.
-ghost use Rattle.std.specs.Prelude.{◌≡◌, ◌++◌, [], true, IfOk, IfErr, OnOk, OnErr};
+ghost use Rattle.std.specs.Prelude.{◌≡◌, ◌<◌, ◌+◌, ◌++◌, [], length, true, IfOk, IfErr, OnOk, OnErr};
 ghost use Rattle.std.specs.Io.KnownBytes.{Appends};
 ghost use Rattle.fy_lines.specs.Prefixes.{AppendsProperPrefix};
 ghost use Rattle.fy_audit.specs.AuditText.{header, entry_line, audit_text};
+ghost use Rattle.fy_streams.specs.declared.audit.TheConstants.{BUFFER_BYTES};
 ghost use Rattle.fy_streams.specs.Outputs.{FlushesFront, IsOutputStop};
 
 use crate::stop::Stop;
@@ -13,7 +14,7 @@ use std::io::Write;
 use std::marker::Model;
 
 /// How many bytes are gathered before they are handed on; the last line may go past them.
-const BUFFER_BYTES: usize = 65_536;
+pub const BUFFER_BYTES: usize = 65_536;
 
 /// Lines of an audit on their way out: they are gathered, and handed on when they fill the buffer.
 #[derive(Drop)]
@@ -64,6 +65,7 @@ impl AuditBuffer {
     fn flush_if_full<W: Write>(&mut self, writer: &mut W) -> Result<(), OutputFault>
         ensures ok { OnOk result (FlushesFront (W.contents writer.old) (W.contents writer.new)
             self.old self.new) }
+        ensures few { OnOk result (length self.new < BUFFER_BYTES) }
         ensures short { OnErr result
             (AppendsProperPrefix (W.contents writer.old) (W.contents writer.new) self.old) }
     {
@@ -73,7 +75,8 @@ impl AuditBuffer {
         self.flush(writer)
     }
 
-    /// Puts an entry's line behind what is gathered, of which some may be written first.
+    /// Puts an entry's line behind what is gathered, of which some may be written first: fewer than
+    /// `BUFFER_BYTES` bytes are gathered then, beside the line.
     ///
     /// # Errors
     ///
@@ -82,6 +85,8 @@ impl AuditBuffer {
     pub fn push<W: Write>(&mut self, writer: &mut W, entry: &Entry) -> Result<(), Stop>
         ensures ok { OnOk result (FlushesFront (W.contents writer.old) (W.contents writer.new)
             (self.old ++ entry_line entry.now) self.new) }
+        ensures few { OnOk result
+            (length self.new < BUFFER_BYTES + length (entry_line entry.now)) }
         ensures short { OnErr result (AppendsProperPrefix (W.contents writer.old)
             (W.contents writer.new) (self.old ++ entry_line entry.now)) }
         ensures fault { IfErr result IsOutputStop }

@@ -6,6 +6,6 @@ mod audit;
 mod load;
 mod stop;
 
-pub use audit::{AuditBuffer, write_audit};
+pub use audit::{AuditBuffer, BUFFER_BYTES, write_audit};
 pub use load::{input_stop, load_bytes, load_config};
 pub use stop::{Stop, write_numbered, write_stop};
