@@ -19,7 +19,7 @@ use crate::killing::{fy_judge, fy_kill};
 use crate::killing_process::{fy_judge_process, fy_kill_process};
 use crate::making::{FyReply, NOTHING_TOLD};
 use crate::opening::{fy_close, fy_open, fy_reset, fy_try_copy};
-use crate::planning::{FyOrder, VALUE_BYTES, fy_attrition_plan, fy_swizzle_plan};
+use crate::planning::{FyOrder, VALUE_BYTES, fy_attrition_plan, fy_plan_orders, fy_swizzle_plan};
 use crate::questioning::fy_ask;
 use crate::resuming::fy_open_after;
 use crate::rights::{fy_give, fy_protect, fy_take, fy_unprotect};
@@ -181,6 +181,7 @@ fn plan(alloc: Global, guard: &mut FyGuard)
     let (mut orders, mut told) = ([none; 12], 0);
     let _ = fy_swizzle_plan(alloc, guard, 7, 1, 10, &mut orders, &mut told);
     let _ = fy_attrition_plan(alloc, guard, 7, 1, 2, 1, 4, 2, 0, &mut orders, &mut told);
+    let _ = fy_plan_orders(alloc, guard, 1, 7, 1, &mut orders);
 }
 
 /// A second guard with the journal of the first, which then begins anew.
