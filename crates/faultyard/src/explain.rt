@@ -1,23 +1,71 @@
-//! What a person at a terminal is told below a fault line: which file it is about, and why.
-use fy_streams::Stop;
+//! What a person at a terminal is told below a fault line: which file it is about, and why; and of
+//! a bad entry what the rules give in its place.
+use crate::bad_entry::{BadEntry, find_bad_entry};
+use fy_streams::{Stop, load_config};
 use fy_where::run_config;
-use std::fs;
-use std::io::{self, IsTerminal, Read};
+use std::fs::{self, File};
+use std::io::{self, IsTerminal, Read, Write};
 
-/// Says below the fault line of a stop which of these files can't be read and why, or where the
-/// fault of the first lies, which is the cluster file. It says so to a terminal alone.
-pub fn explain(rt: &HostRuntime, files: &[Option<&str>], stop: Stop) {
+/// What a fault may be about.
+#[derive(Clone, Copy)]
+pub struct Named<'a> {
+    /// The files that the command line names, the cluster file first.
+    pub files: [Option<&'a str>; 2],
+    /// The audit whose entries are checked, if one is.
+    pub audit: Option<&'a str>,
+}
+
+/// Says below the fault line of a stop which of the files can't be read and why, or where the fault
+/// of the cluster file lies. It says so to a terminal alone.
+pub fn explain(rt: &HostRuntime, named: &Named<'_>, stop: Stop) {
     if !rt.stderr().is_terminal() {
         return;
     }
     match stop {
-        Stop::Read => explain_read(rt, files),
+        Stop::Read => explain_read(rt, &named.files),
         Stop::Config { .. } => {
-            if let Some(Some(path)) = files.first() {
+            if let Some(path) = named.files[0] {
                 explain_config(rt, path, stop);
             }
         }
         _ => {}
+    }
+}
+
+/// Says of the first bad entry of the audit how it is there, and what the rules give. It says so to
+/// a terminal alone, and only where cluster file and audit can be read twice.
+pub fn explain_entry(rt: &HostRuntime, named: &Named<'_>) {
+    if !rt.stderr().is_terminal() {
+        return;
+    }
+    if let (Some(config), Some(audit)) = (named.files[0], named.audit) {
+        if let Ok(Some(bad)) = bad_entry_of(rt, config, audit) {
+            write_bad_entry(rt, audit, &bad);
+        }
+    }
+}
+
+/// The first bad entry of an audit, if both files can be read again.
+fn bad_entry_of(rt: &HostRuntime, config: &str, audit: &str) -> Result<Option<BadEntry>, Stop> {
+    let (Some(mut file), Some(mut audit)) = (open_again(rt, config), open_again(rt, audit)) else {
+        return Ok(None);
+    };
+    let config = load_config(rt.alloc(), &mut file)?;
+    find_bad_entry(rt.alloc(), config, &mut audit)
+}
+
+/// Writes where a bad entry stands and why it is bad, and below that the entry and the one that the
+/// rules give.
+fn write_bad_entry(rt: &HostRuntime, path: &str, bad: &BadEntry) {
+    let place = bad.entry.at;
+    // An entry a line, behind the header.
+    let line = place as u64 + 2;
+    let _ = match bad.given {
+        Some(_) => eprint!(rt; "{path}:{line}: the rules give another reply\n"),
+        None => eprint!(rt; "{path}:{line}: the journal is full: its limit is {place}\n"),
+    };
+    if let Ok(lines) = bad.lines(rt.alloc()) {
+        let _ = rt.stderr().write_all(lines.as_slice());
     }
 }
 
@@ -41,13 +89,17 @@ fn read_a_byte(rt: &HostRuntime, path: &str) -> io::Result<()> {
     Ok(())
 }
 
+/// A file once more from its beginning. What can be read but once, as a pipe, isn't opened.
+fn open_again(rt: &HostRuntime, path: &str) -> Option<File> {
+    match fs::metadata(rt, path) {
+        Ok(meant) if meant.is_file() => fs::open(rt, path).ok(),
+        _ => None,
+    }
+}
+
 /// Says where the fault of a cluster file lies, where the file still has it.
 fn explain_config(rt: &HostRuntime, path: &str, stop: Stop) {
-    match fs::metadata(rt, path) {
-        Ok(meant) if meant.is_file() => {}
-        _ => return,
-    }
-    let Ok(mut file) = fs::open(rt, path) else {
+    let Some(mut file) = open_again(rt, path) else {
         return;
     };
     let Err(refusal) = run_config(rt.alloc(), path, &mut file, &mut io::sink()) else {

@@ -8,10 +8,11 @@ ghost use Rattle.clap.specs.Values.{kind_of};
 ghost use Rattle.fy_histories.specs.Stops.{histories_status};
 ghost use Rattle.faultyard.specs.Statuses.{done_status, outcome_status, judged_status, keys_status, told_status, printed_status, IsAnsweredStatus, IsUnreadStatus};
 
+mod bad_entry;
 mod explain;
 mod task;
 
-use explain::explain;
+use explain::{Named, explain, explain_entry};
 use fy_audit::AuditFault;
 use fy_bears::{run_bears, run_bears_after};
 use fy_check::run_check;
@@ -86,7 +87,7 @@ fn main(rt: HostRuntime) -> ExitCode {
 
 /// Carries out a task, and gives the status to end with.
 fn carry_out<R: Threads + Wait + Sync>(rt: &HostRuntime, threads: &R, task: Task) -> ExitCode {
-    let files = task.files();
+    let named = task.named();
     let done = match task {
         Task::Judge => judge_input(rt),
         Task::Run(path) => run_file(rt, path),
@@ -95,33 +96,36 @@ fn carry_out<R: Threads + Wait + Sync>(rt: &HostRuntime, threads: &R, task: Task
         Task::Simulate(_, _, _, None) => return unplanned(rt),
         Task::Guard(path, None, questions) => guard_file(rt, path, questions),
         Task::Guard(path, Some(after), questions) => {
-            return guard_after(rt, path, after, questions);
+            return guard_after(rt, &named, path, after, questions);
         }
         Task::Show(path, times) => show_file(rt, path, times),
         Task::Bears(path, form, after, None) => bears_file(rt, path, form, after, &[]),
         Task::Bears(path, form, after, Some(elections)) => {
-            return bears_elections(rt, path, form, after, elections);
+            return bears_elections(rt, &named, path, form, after, elections);
         }
         Task::Verdict(path, audit, fresh) => {
-            return judged(rt, &files, verdict_file(rt, path, audit), fresh);
+            return judged(rt, &named, verdict_file(rt, path, audit), fresh);
         }
         Task::Linear => return judged_keys(rt, linear_input(rt)),
-        Task::Config(path) => return told_config(rt, &files, config_file(rt, path)),
+        Task::Config(path) => return told_config(rt, &named, config_file(rt, path)),
         Task::Swarm(path, seed) => swarm_file(rt, threads, path, seed),
     };
-    ended(rt, &files, done)
+    ended(rt, &named, done)
 }
 
 /// The status that a command on these files ends with. Where it stopped, its fault line is written.
-fn ended(rt: &HostRuntime, files: &[Option<&str>], done: Result<bool, Stop>) -> ExitCode
+fn ended(rt: &HostRuntime, named: &Named<'_>, done: Result<bool, Stop>) -> ExitCode
     ensures { exit_status result ≡ done_status done }
 {
     match done {
         Ok(true) => ExitCode::SUCCESS,
-        Ok(false) => ExitCode::from(REFUTED),
+        Ok(false) => {
+            explain_entry(rt, named);
+            ExitCode::from(REFUTED)
+        }
         Err(stop) => {
             let status = stopped(rt, stop);
-            explain(rt, files, stop);
+            explain(rt, named, stop);
             status
         }
     }
@@ -200,6 +204,7 @@ fn bears_file(
 /// Says so by the policy of elections that a text says, and gives the status to end with.
 fn bears_elections(
     rt: &HostRuntime,
+    named: &Named<'_>,
     path: &str,
     form: Form,
     after: Option<&str>,
@@ -208,8 +213,7 @@ fn bears_elections(
     match read_policy(rt.alloc(), elections) {
         Ok(policy) => {
             let policies = slice::from_ref(&policy);
-            let files = [Some(path), after];
-            ended(rt, &files, bears_file(rt, path, form, after, policies))
+            ended(rt, named, bears_file(rt, path, form, after, policies))
         }
         Err(PolicyFault::NoMemory) => stopped(rt, Stop::NoMemory),
         Err(_) => unread_policy(rt),
@@ -230,11 +234,16 @@ fn guard_file(rt: &HostRuntime, path: &str, questions: bool) -> Result<bool, Sto
 }
 
 /// Answers that script from the end of the audit in a file on, and gives the status to end with.
-fn guard_after(rt: &HostRuntime, path: &str, after: &str, questions: bool) -> ExitCode {
-    let files = [Some(path), Some(after)];
+fn guard_after(
+    rt: &HostRuntime,
+    named: &Named<'_>,
+    path: &str,
+    after: &str,
+    questions: bool,
+) -> ExitCode {
     let config = match open_config(rt, path) {
         Ok(config) => config,
-        Err(stop) => return ended(rt, &files, Err(stop)),
+        Err(stop) => return ended(rt, named, Err(stop)),
     };
     let alloc = rt.alloc();
     let Ok(mut lines) = BufReader::new(alloc, rt.stdin()) else {
@@ -242,7 +251,7 @@ fn guard_after(rt: &HostRuntime, path: &str, after: &str, questions: bool) -> Ex
     };
     let mut audit = match open_file(rt, after) {
         Ok(audit) => audit,
-        Err(stop) => return ended(rt, &files, Err(stop)),
+        Err(stop) => return ended(rt, named, Err(stop)),
     };
     // What is written may stand behind the audit, so what is found of it goes elsewhere.
     let (mut output, mut found) = (rt.stdout(), rt.stderr());
@@ -255,20 +264,20 @@ fn guard_after(rt: &HostRuntime, path: &str, after: &str, questions: bool) -> Ex
         &mut output,
         &mut found,
     );
-    ended_after(rt, &files, done, &mut audit)
+    ended_after(rt, named, done, &mut audit)
 }
 
 /// The status that a guard behind an audit ends with. Where half a last line of the audit stopped
 /// it, a second line says how many bytes are whole.
 fn ended_after(
     rt: &HostRuntime,
-    files: &[Option<&str>],
+    named: &Named<'_>,
     done: Result<bool, Stop>,
     audit: &mut File,
 ) -> ExitCode
     ensures { exit_status result ≡ done_status done }
 {
-    let status = ended(rt, files, done);
+    let status = ended(rt, named, done);
     if let Err(
         Stop::Audit {
             fault: AuditFault::Line { number, .. },
@@ -323,7 +332,7 @@ fn config_file(rt: &HostRuntime, path: &str) -> Result<(), Refusal> {
 
 /// The status that `config` ends with. Where it stopped, its fault line is written, and below it
 /// where the fault lies and what was expected there.
-fn told_config(rt: &HostRuntime, files: &[Option<&str>], done: Result<(), Refusal>) -> ExitCode
+fn told_config(rt: &HostRuntime, named: &Named<'_>, done: Result<(), Refusal>) -> ExitCode
     ensures { exit_status result ≡ told_status done }
 {
     let Err(refusal) = done else {
@@ -333,7 +342,7 @@ fn told_config(rt: &HostRuntime, files: &[Option<&str>], done: Result<(), Refusa
     let why = refusal.why.as_str();
     let _ = eprint!(rt; "{why}");
     if refusal.stop == Stop::Read {
-        explain(rt, files, Stop::Read);
+        explain(rt, named, Stop::Read);
     }
     status
 }
@@ -357,18 +366,23 @@ fn outcome_status(outcome: Outcome, fresh: bool) -> u8
 /// The status that `verdict` ends with. Where it stopped, its fault line is written.
 fn judged(
     rt: &HostRuntime,
-    files: &[Option<&str>],
+    named: &Named<'_>,
     done: Result<Outcome, HistoriesStop>,
     fresh: bool,
 ) -> ExitCode
     ensures { exit_status result ≡ judged_status fresh done }
 {
     match done {
-        Ok(outcome) => ExitCode::from(outcome_status(outcome, fresh)),
+        Ok(outcome) => {
+            if let Outcome::NotLegal = outcome {
+                explain_entry(rt, named);
+            }
+            ExitCode::from(outcome_status(outcome, fresh))
+        }
         Err(stop) => {
             let status = stopped_judging(rt, stop);
             if let HistoriesStop::Other(stop) = stop {
-                explain(rt, files, stop);
+                explain(rt, named, stop);
             }
             status
         }

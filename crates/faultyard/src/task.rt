@@ -12,6 +12,7 @@ ghost use Rattle.faultyard.specs.Commands.{acts_rule, plan_rule, simulate_comman
 ghost use Rattle.faultyard.specs.Commands.{times_rule, json_rule, after_rule, elections_rule, questions_rule, bears_command, IsFormOf};
 ghost use Rattle.faultyard.specs.Commands.{audit_rule, fresh_rule, verdict_command, linear_command, config_command, IsSetOf};
 
+use crate::explain::Named;
 use clap::{Arg, ArgAction, ArgMatches, Command, value_parser};
 use fy_players::Plan;
 use fy_tolerance::Form;
@@ -94,9 +95,20 @@ pub enum Task<'a> {
     Config(&'a str),
 }
 
+/// Standard input by a path, which leads to its file where it is one.
+const STANDARD_INPUT: &str = "/dev/stdin";
+
 impl<'a> Task<'a> {
+    /// What a fault of it may be about.
+    pub fn named(&self) -> Named<'a> {
+        Named {
+            files: self.files(),
+            audit: self.audit(),
+        }
+    }
+
     /// The files that it names, the cluster file first.
-    pub fn files(&self) -> [Option<&'a str>; 2] {
+    fn files(&self) -> [Option<&'a str>; 2] {
         match *self {
             Task::Judge => [None, None],
             Task::Linear => [None, None],
@@ -109,6 +121,18 @@ impl<'a> Task<'a> {
             Task::Show(config, times) => [Some(config), times],
             Task::Bears(config, _, after, _) => [Some(config), after],
             Task::Verdict(config, audit, _) => [Some(config), Some(audit)],
+        }
+    }
+
+    /// The audit whose entries it checks, if it checks one.
+    fn audit(&self) -> Option<&'a str> {
+        match *self {
+            Task::Check(_) => Some(STANDARD_INPUT),
+            Task::Show(_, _) => Some(STANDARD_INPUT),
+            Task::Guard(_, after, _) => after,
+            Task::Bears(_, _, after, _) => after,
+            Task::Verdict(_, audit, _) => Some(audit),
+            _ => None,
         }
     }
 }
