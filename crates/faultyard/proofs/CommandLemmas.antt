@@ -19,7 +19,7 @@ use Rattle.clap.proofs.ValueTestLemmas.{accepts-Accepts}
 use Rattle.clap.specs.Kinds.{HasKind}
 use Rattle.clap.specs.declared.error.Error.{Error}
 use Rattle.faultyard.specs.declared.task.Task.{Task}
-use Rattle.faultyard.specs.Commands.{faultyard_command, IsActsOf, IsSeed, IsTaskOf, StandsFor, largest_seed, seed_in, usual_acts}
+use Rattle.faultyard.specs.Commands.{faultyard_command, IsActsOf, IsExplainOf, IsSeed, IsSetOf, IsTaskOf, StandsFor, largest_seed, seed_in, usual_acts}
 use Rattle.faultyard.proofs.RowLemmas.{AreFilling, HasValue, Requires, required_value}
 use Rattle.faultyard.proofs.EnterLemmas.{IsIn, words_enter}
 
@@ -138,56 +138,56 @@ known_task s words known other none =
       | inl judge ↦ inl (inl (ap (λ t. t.name) judge))
       | inr (inl run) ↦ inr (
         inl (ap (λ t. t.name) run),
-        config_given s _ words run ((refl, refl, refl), ((refl, refl, refl), tt)) (inl (refl, refl)) refl none,
+        config_given s _ words run ((refl, refl, refl), ((refl, refl, refl), ((refl, refl, refl), tt))) (inl (refl, refl)) refl none,
         λ seed. absurd (no_seed s.name (codes "run") (ap (λ t. t.name) run) (λ e. omega arith) seed),
         λ audit. absurd (no_audit s.name (codes "run") (ap (λ t. t.name) run) (λ e. omega arith) audit),
       )
       | inr (inr (inl check)) ↦ inr (
         inr (inl (ap (λ t. t.name) check)),
-        config_given s _ words check ((refl, refl, refl), ((refl, refl, refl), tt)) (inl (refl, refl)) refl none,
+        config_given s _ words check ((refl, refl, refl), ((refl, refl, refl), ((refl, refl, refl), tt))) (inl (refl, refl)) refl none,
         λ seed. absurd (no_seed s.name (codes "check") (ap (λ t. t.name) check) (λ e. omega arith) seed),
         λ audit. absurd (no_audit s.name (codes "check") (ap (λ t. t.name) check) (λ e. omega arith) audit),
       )
       | inr (inr (inr (inl swarm))) ↦ inr (
         inr (inr (inl (ap (λ t. t.name) swarm))),
-        config_given s _ words swarm ((refl, refl, refl), ((refl, refl, refl), ((refl, refl, refl), tt))) (inl (refl, refl)) refl none,
-        λ is. seed_given s _ words swarm ((refl, refl, refl), ((refl, refl, refl), ((refl, refl, refl), tt))) (inr (inl (refl, refl))) refl none,
+        config_given s _ words swarm ((refl, refl, refl), ((refl, refl, refl), ((refl, refl, refl), ((refl, refl, refl), tt)))) (inl (refl, refl)) refl none,
+        λ is. seed_given s _ words swarm ((refl, refl, refl), ((refl, refl, refl), ((refl, refl, refl), ((refl, refl, refl), tt)))) (inr (inl (refl, refl))) refl none,
         λ audit. absurd (no_audit s.name (codes "swarm") (ap (λ t. t.name) swarm) (λ e. omega arith) audit),
       )
       | inr (inr (inr (inr (inl simulate)))) ↦ inr (
         inr (inr (inr (inl (ap (λ t. t.name) simulate)))),
-        config_given s _ words simulate ((refl, refl, refl), ((refl, refl, refl), ((refl, refl, refl), ((refl, refl, refl), ((refl, refl, refl), tt))))) (inl (refl, refl)) refl none,
-        λ is. seed_given s _ words simulate ((refl, refl, refl), ((refl, refl, refl), ((refl, refl, refl), ((refl, refl, refl), ((refl, refl, refl), tt))))) (inr (inl (refl, refl))) refl none,
+        config_given s _ words simulate ((refl, refl, refl), ((refl, refl, refl), ((refl, refl, refl), ((refl, refl, refl), ((refl, refl, refl), ((refl, refl, refl), tt)))))) (inl (refl, refl)) refl none,
+        λ is. seed_given s _ words simulate ((refl, refl, refl), ((refl, refl, refl), ((refl, refl, refl), ((refl, refl, refl), ((refl, refl, refl), ((refl, refl, refl), tt)))))) (inr (inl (refl, refl))) refl none,
         λ audit. absurd (no_audit s.name (codes "simulate") (ap (λ t. t.name) simulate) (λ e. omega arith) audit),
       )
       | inr (inr (inr (inr (inr (inl guard))))) ↦ inr (
         inr (inr (inr (inr (inl (ap (λ t. t.name) guard))))),
-        config_given s _ words guard ((refl, refl, refl), ((refl, refl, refl), ((refl, refl, refl), ((refl, refl, refl), tt)))) (inl (refl, refl)) refl none,
+        config_given s _ words guard ((refl, refl, refl), ((refl, refl, refl), ((refl, refl, refl), ((refl, refl, refl), ((refl, refl, refl), tt))))) (inl (refl, refl)) refl none,
         λ seed. absurd (no_seed s.name (codes "guard") (ap (λ t. t.name) guard) (λ e. omega arith) seed),
         λ audit. absurd (no_audit s.name (codes "guard") (ap (λ t. t.name) guard) (λ e. omega arith) audit),
       )
       | inr (inr (inr (inr (inr (inr (inl show)))))) ↦ inr (
         inr (inr (inr (inr (inr (inl (ap (λ t. t.name) show)))))),
-        config_given s _ words show ((refl, refl, refl), ((refl, refl, refl), ((refl, refl, refl), tt))) (inl (refl, refl)) refl none,
+        config_given s _ words show ((refl, refl, refl), ((refl, refl, refl), ((refl, refl, refl), ((refl, refl, refl), tt)))) (inl (refl, refl)) refl none,
         λ seed. absurd (no_show s.name (ap (λ t. t.name) show) seed),
         λ audit. absurd (no_audit s.name (codes "show") (ap (λ t. t.name) show) (λ e. omega arith) audit),
       )
       | inr (inr (inr (inr (inr (inr (inr (inl bears))))))) ↦ inr (
         inr (inr (inr (inr (inr (inr (inl (ap (λ t. t.name) bears))))))),
-        config_given s _ words bears ((refl, refl, refl), ((refl, refl, refl), ((refl, refl, refl), ((refl, refl, refl), ((refl, refl, refl), tt))))) (inl (refl, refl)) refl none,
+        config_given s _ words bears ((refl, refl, refl), ((refl, refl, refl), ((refl, refl, refl), ((refl, refl, refl), ((refl, refl, refl), ((refl, refl, refl), tt)))))) (inl (refl, refl)) refl none,
         λ seed. absurd (no_seed s.name (codes "bears") (ap (λ t. t.name) bears) (λ e. omega arith) seed),
         λ audit. absurd (no_audit s.name (codes "bears") (ap (λ t. t.name) bears) (λ e. omega arith) audit),
       )
       | inr (inr (inr (inr (inr (inr (inr (inr (inl verdict)))))))) ↦ inr (
         inr (inr (inr (inr (inr (inr (inr (inl (ap (λ t. t.name) verdict)))))))),
-        config_given s _ words verdict ((refl, refl, refl), ((refl, refl, refl), ((refl, refl, refl), ((refl, refl, refl), tt)))) (inl (refl, refl)) refl none,
+        config_given s _ words verdict ((refl, refl, refl), ((refl, refl, refl), ((refl, refl, refl), ((refl, refl, refl), ((refl, refl, refl), tt))))) (inl (refl, refl)) refl none,
         λ seed. absurd (no_seed s.name (codes "verdict") (ap (λ t. t.name) verdict) (λ e. omega arith) seed),
-        λ is. audit_given s _ words verdict ((refl, refl, refl), ((refl, refl, refl), ((refl, refl, refl), ((refl, refl, refl), tt)))) (inr (inl (refl, refl))) refl none,
+        λ is. audit_given s _ words verdict ((refl, refl, refl), ((refl, refl, refl), ((refl, refl, refl), ((refl, refl, refl), ((refl, refl, refl), tt))))) (inr (inl (refl, refl))) refl none,
       )
       | inr (inr (inr (inr (inr (inr (inr (inr (inr (inl linear))))))))) ↦ inl (inr (ap (λ t. t.name) linear))
       | inr (inr (inr (inr (inr (inr (inr (inr (inr (inr (inl config)))))))))) ↦ inr (
         inr (inr (inr (inr (inr (inr (inr (inr (ap (λ t. t.name) config)))))))),
-        config_given s _ words config ((refl, refl, refl), ((refl, refl, refl), tt)) (inl (refl, refl)) refl none,
+        config_given s _ words config ((refl, refl, refl), ((refl, refl, refl), ((refl, refl, refl), tt))) (inl (refl, refl)) refl none,
         λ seed. absurd (no_seed s.name (codes "config") (ap (λ t. t.name) config) (λ e. omega arith) seed),
         λ audit. absurd (no_audit s.name (codes "config") (ap (λ t. t.name) config) (λ e. omega arith) audit),
       )
@@ -233,6 +233,15 @@ pub is_task_of : (command : App) (words : List Text) (m : ArgMatches) (name : Te
 is_task_of command words m name given task is rows named held stands =
     let same : subcommand_rows_of m ≡ subcommand_of faultyard_command words = (rows (ap is_simple is ∙ is_simple_command)).1 ∙ ap (λ a. subcommand_of a words) is in
     subst (λ o. IsTaskOf o task) (sym (met_by words m name (rows_of (found_of given)) same named held)) stands
+
+-- and a flag of its rows is the flag of the words
+pub is_explain_of : (command : App) (words : List Text) (m : ArgMatches) (name : Text) (given : ArgMatches) (explain : Bool) → command ≡ faultyard_command
+    → (is_simple command ≡ true → (rows_of (found_of m) ≡ matches_of command words) × (subcommand_rows_of m ≡ subcommand_of command words))
+    → Some name ≡ subcommand_name_of m → Some (rows_of (found_of given)) ≡ option_map (λ p. p.1) (subcommand_rows_of m)
+    → IsSetOf (first_of (codes "explain") (rows_of (found_of given))) explain → IsExplainOf (subcommand_of faultyard_command words) explain
+is_explain_of command words m name given explain is rows named held set =
+    let same : subcommand_rows_of m ≡ subcommand_of faultyard_command words = (rows (ap is_simple is ∙ is_simple_command)).1 ∙ ap (λ a. subcommand_of a words) is in
+    subst (λ o. IsExplainOf o explain) (sym (met_by words m name (rows_of (found_of given)) same named held)) set
 
 -- an error of the words has a kind of their fault
 pub fails_by : (command : App) (words : List Text) (error : Error) → command ≡ faultyard_command → (is_simple_and_free command ≡ true → HasKind (fault_of command words) error)

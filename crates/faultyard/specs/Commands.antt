@@ -164,7 +164,18 @@ linear_command = new_app (codes "linear")
 abbrev pub config_command : App
 config_command = with_rule (new_app (codes "config")) config_rule
 
--- the command line of `faultyard`
+-- the flag `--explain`
+abbrev pub explain_rule : Rule
+explain_rule = record (new_rule (codes "explain")) {
+  long = Some (codes "explain");
+  action = Some SetTrue;
+}
+
+-- the subcommand, which may take that flag besides
+abbrev pub explained : App → App
+explained command = with_rule command explain_rule
+
+-- the command line of `faultyard`; each subcommand that takes a file may take the flag
 abbrev pub faultyard_command : App
 faultyard_command =
     with_subcommand
@@ -176,16 +187,16 @@ faultyard_command =
     (with_subcommand
     (with_subcommand
     (with_subcommand
-    (with_subcommand (with_subcommand bare_command judge_command.top) run_command.top)
-    check_command.top)
-    swarm_command.top)
-    simulate_command.top)
-    guard_command.top)
-    show_command.top)
-    bears_command.top)
-    verdict_command.top)
+    (with_subcommand (with_subcommand bare_command judge_command.top) (explained run_command).top)
+    (explained check_command).top)
+    (explained swarm_command).top)
+    (explained simulate_command).top)
+    (explained guard_command).top)
+    (explained show_command).top)
+    (explained bears_command).top)
+    (explained verdict_command).top)
     linear_command.top)
-    config_command.top
+    (explained config_command).top
 
 -- the text of a seed: a whole number of 64 bits
 abbrev pub IsSeed : Text → Type 0
@@ -256,3 +267,7 @@ StandsFor met (Config config) =
 -- the task is the one that the matches' subcommand stands for
 abbrev pub IsTaskOf : Option (Text × List Row) → Task → Type 0
 IsTaskOf met task = IsSomeAnd met (λ p. StandsFor p task)
+
+-- it is so just where the subcommand that the matches hold has the flag `--explain`
+abbrev pub IsExplainOf : Option (Text × List Row) → Bool → Type 0
+IsExplainOf met explain = IsSomeAnd met (λ p. IsSetOf (first_of (codes "explain") p.1) explain)

@@ -1,5 +1,5 @@
-//! What a person at a terminal is told below a fault line: which file it is about, and why; and of
-//! a bad entry what the rules give in its place.
+//! What is told below a fault line, on a terminal or by `--explain`: which file it is about, and
+//! why; and of a bad entry what the rules give in its place.
 use crate::bad_entry::{BadEntry, find_bad_entry};
 use fy_streams::{Stop, load_config};
 use fy_where::run_config;
@@ -13,12 +13,19 @@ pub struct Named<'a> {
     pub files: [Option<&'a str>; 2],
     /// The audit whose entries are checked, if one is.
     pub audit: Option<&'a str>,
+    /// Whether it is explained, whatever standard error is.
+    pub explain: bool,
+}
+
+/// Whether a fault is explained: on a terminal, or where it was asked for.
+fn is_wanted(rt: &HostRuntime, named: &Named<'_>) -> bool {
+    named.explain || rt.stderr().is_terminal()
 }
 
 /// Says below the fault line of a stop which of the files can't be read and why, or where the fault
-/// of the cluster file lies. It says so to a terminal alone.
+/// of the cluster file lies.
 pub fn explain(rt: &HostRuntime, named: &Named<'_>, stop: Stop) {
-    if !rt.stderr().is_terminal() {
+    if !is_wanted(rt, named) {
         return;
     }
     match stop {
@@ -32,10 +39,10 @@ pub fn explain(rt: &HostRuntime, named: &Named<'_>, stop: Stop) {
     }
 }
 
-/// Says of the first bad entry of the audit how it is there, and what the rules give. It says so to
-/// a terminal alone, and only where cluster file and audit can be read twice.
+/// Says of the first bad entry of the audit how it is there, and what the rules give. It does so
+/// only where cluster file and audit can be read twice.
 pub fn explain_entry(rt: &HostRuntime, named: &Named<'_>) {
-    if !rt.stderr().is_terminal() {
+    if !is_wanted(rt, named) {
         return;
     }
     if let (Some(config), Some(audit)) = (named.files[0], named.audit) {

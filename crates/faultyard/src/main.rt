@@ -37,7 +37,7 @@ use std::process::ExitCode;
 use std::sync::Wait;
 use std::thread::Threads;
 use std::{env, fs, slice};
-use task::{Task, read_task};
+use task::{Asked, Task, read_task};
 
 /// The status of a program whose words are no command.
 const USAGE: u8 = 2;
@@ -80,15 +80,15 @@ fn main(rt: HostRuntime) -> ExitCode {
     };
     match read_task(rt.alloc(), words.as_slice()) {
         // Threads are main's to give.
-        Ok(task) => carry_out(&rt, &rt, task),
+        Ok(asked) => carry_out(&rt, &rt, asked),
         Err(error) => answered(&rt, &error),
     }
 }
 
-/// Carries out a task, and gives the status to end with.
-fn carry_out<R: Threads + Wait + Sync>(rt: &HostRuntime, threads: &R, task: Task) -> ExitCode {
-    let named = task.named();
-    let done = match task {
+/// Does what was asked for, and gives the status to end with.
+fn carry_out<R: Threads + Wait + Sync>(rt: &HostRuntime, threads: &R, asked: Asked) -> ExitCode {
+    let named = asked.named();
+    let done = match asked.task {
         Task::Judge => judge_input(rt),
         Task::Run(path) => run_file(rt, path),
         Task::Check(path) => check_file(rt, path),

@@ -11,6 +11,7 @@ ghost use Rattle.faultyard.specs.Commands.{seed_rule, swarm_command, guard_comma
 ghost use Rattle.faultyard.specs.Commands.{acts_rule, plan_rule, simulate_command, IsActsOf, IsPlanOf};
 ghost use Rattle.faultyard.specs.Commands.{times_rule, json_rule, after_rule, elections_rule, questions_rule, bears_command, IsFormOf};
 ghost use Rattle.faultyard.specs.Commands.{audit_rule, fresh_rule, verdict_command, linear_command, config_command, IsSetOf};
+ghost use Rattle.faultyard.specs.Commands.{explain_rule, explained, IsExplainOf};
 
 use crate::explain::Named;
 use clap::{Arg, ArgAction, ArgMatches, Command, value_parser};
@@ -98,15 +99,26 @@ pub enum Task<'a> {
 /// Standard input by a path, which leads to its file where it is one.
 const STANDARD_INPUT: &str = "/dev/stdin";
 
-impl<'a> Task<'a> {
-    /// What a fault of it may be about.
+/// What the words of the command line ask for.
+#[derive(Clone, Copy, Debug, PartialEq, Eq)]
+pub struct Asked<'a> {
+    pub task: Task<'a>,
+    /// Whether `--explain` is among them: a fault is explained, whatever standard error is.
+    pub explain: bool,
+}
+
+impl<'a> Asked<'a> {
+    /// What a fault may be about, and whether it is explained in any case.
     pub fn named(&self) -> Named<'a> {
         Named {
-            files: self.files(),
-            audit: self.audit(),
+            files: self.task.files(),
+            audit: self.task.audit(),
+            explain: self.explain,
         }
     }
+}
 
+impl<'a> Task<'a> {
     /// The files that it names, the cluster file first.
     fn files(&self) -> [Option<&'a str>; 2] {
         match *self {
@@ -135,6 +147,24 @@ impl<'a> Task<'a> {
             _ => None,
         }
     }
+}
+
+/// The flag that a fault is explained.
+fn explain<'a>(alloc: Global) -> Arg<'a>
+    ensures rule { rule_of result ≡ explain_rule }
+    ensures own { result.global ≡ false }
+{
+    Arg::new(alloc, "explain")
+        .long("explain")
+        .action(ArgAction::SetTrue)
+        .help("Says below a fault or a bad entry what is wrong, as on a terminal")
+}
+
+/// The subcommand with that flag besides.
+fn explained<'a>(alloc: Global, command: Command<'a>) -> Result<Command<'a>, AllocError>
+    ensures { IfOk result (λ with_flag. app_of with_flag ≡ explained (app_of command)) }
+{
+    command.arg(explain(alloc))
 }
 
 /// The subcommand `judge`, with its help.
@@ -445,65 +475,69 @@ fn faultyard<'a>(alloc: Global) -> Result<Command<'a>, AllocError>
 {
     bare(alloc)
         .subcommand(judge(alloc))?
-        .subcommand(run(alloc)?)?
-        .subcommand(check(alloc)?)?
-        .subcommand(swarm(alloc)?)?
-        .subcommand(simulate(alloc)?)?
-        .subcommand(guard(alloc)?)?
-        .subcommand(show(alloc)?)?
-        .subcommand(bears(alloc)?)?
-        .subcommand(verdict(alloc)?)?
+        .subcommand(explained(alloc, run(alloc)?)?)?
+        .subcommand(explained(alloc, check(alloc)?)?)?
+        .subcommand(explained(alloc, swarm(alloc)?)?)?
+        .subcommand(explained(alloc, simulate(alloc)?)?)?
+        .subcommand(explained(alloc, guard(alloc)?)?)?
+        .subcommand(explained(alloc, show(alloc)?)?)?
+        .subcommand(explained(alloc, bears(alloc)?)?)?
+        .subcommand(explained(alloc, verdict(alloc)?)?)?
         .subcommand(linear(alloc))?
-        .subcommand(config_check(alloc)?)
+        .subcommand(explained(alloc, config_check(alloc)?)?)
 }
 
-/// The task that the words ask for; the first word is the program's name.
+/// What the words ask for; the first word is the program's name.
 ///
 /// # Errors
 ///
 /// The errors of `clap`, for help and the version too, whose kinds are `DisplayHelp` and
 /// `DisplayVersion`. An allocation failure has the kind `OutOfMemory`.
-pub fn read_task<'a>(alloc: Global, words: &'a [String]) -> Result<Task<'a>, clap::Error>
-    ensures task { IfOk result
-        (IsTaskOf (subcommand_of faultyard_command (map string_bytes words.now))) }
+pub fn read_task<'a>(alloc: Global, words: &'a [String]) -> Result<Asked<'a>, clap::Error>
+    ensures task { IfOk result (λ asked.
+        IsTaskOf (subcommand_of faultyard_command (map string_bytes words.now)) asked.task) }
+    ensures explain { IfOk result (λ asked.
+        IsExplainOf (subcommand_of faultyard_command (map string_bytes words.now)) asked.explain) }
     ensures refused { FailsBy (fault_of faultyard_command (map string_bytes words.now)) result }
 {
     let matches = faultyard(alloc)?.try_get_matches_from(words)?;
     let Some((name, given)) = matches.subcommand() else {
         unreachable!();
     };
-    match name {
-        "judge" => Ok(Task::Judge),
-        "run" => Ok(Task::Run(config_of(given))),
-        "check" => Ok(Task::Check(config_of(given))),
-        "swarm" => Ok(Task::Swarm(config_of(given), seed_of(given))),
+    let explain = is_set(given, "explain");
+    let task = match name {
+        "judge" => Task::Judge,
+        "run" => Task::Run(config_of(given)),
+        "check" => Task::Check(config_of(given)),
+        "swarm" => Task::Swarm(config_of(given), seed_of(given)),
         "simulate" => {
-            Ok(Task::Simulate(
+            Task::Simulate(
                 config_of(given),
                 seed_of(given),
                 acts_of(given),
                 plan_of(given),
-            ))
+            )
         }
-        "guard" => Ok(Task::Guard(
+        "guard" => Task::Guard(
             config_of(given),
             after_of(given),
             is_set(given, "questions"),
-        )),
-        "show" => Ok(Task::Show(config_of(given), times_of(given))),
+        ),
+        "show" => Task::Show(config_of(given), times_of(given)),
         "bears" => {
-            Ok(Task::Bears(
+            Task::Bears(
                 config_of(given),
                 form_of(given),
                 after_of(given),
                 elections_of(given),
-            ))
+            )
         }
-        "verdict" => Ok(Task::Verdict(config_of(given), audit_of(given), is_set(given, "fresh"))),
-        "linear" => Ok(Task::Linear),
-        "config" => Ok(Task::Config(config_of(given))),
+        "verdict" => Task::Verdict(config_of(given), audit_of(given), is_set(given, "fresh")),
+        "linear" => Task::Linear,
+        "config" => Task::Config(config_of(given)),
         _ => unreachable!(),
-    }
+    };
+    Ok(Asked { task, explain })
 }
 
 /// The cluster file among the words of a subcommand that takes one.

@@ -54,5 +54,8 @@ complete -c faultyard -n "__fish_seen_subcommand_from verdict" -l audit -r -F \
     -d "The audit of the run, a file"
 complete -c faultyard -n "__fish_seen_subcommand_from verdict" -l fresh \
     -d "A record that was stale gives status 7: the store promises fresh reads"
+complete -c faultyard -l explain \
+    -n "__fish_seen_subcommand_from run check swarm simulate guard show bears verdict config" \
+    -d "Says below a fault or a bad entry what is wrong, as on a terminal"
 complete -c faultyard -n "__fish_seen_subcommand_from help" \
     -a "judge run check swarm simulate guard show bears verdict linear config"

@@ -1,7 +1,7 @@
 use Rattle.std.proofs.Common.{arith, codes, inl, inr, map}
 use Rattle.std.specs.Prelude.{string_bytes}
 use Rattle.std.proofs.lemmas.Result.{err_from_is_err_and}
-use Rattle.faultyard.proofs.CommandLemmas.{faultless, fails_by, has_audit, has_config, has_seed, is_task_of, met_task}
+use Rattle.faultyard.proofs.CommandLemmas.{faultless, fails_by, has_audit, has_config, has_seed, is_explain_of, is_task_of, met_task}
 use Rattle.faultyard.specs.declared.task.Task.TheVariants.{Judge, Run, Check, Swarm, Simulate, Guard, Show, Bears, Verdict, Linear, Config}
 use Rattle.faultyard.proofs.task.read_task.Goals as goal
 
@@ -89,6 +89,50 @@ returns-in-linear-clause-task c = is_task_of _ (map string_bytes c.args.words.no
 pub returns-in-config-clause-task : goal.returns-in-config-clause-task
 returns-in-config-clause-task c = is_task_of _ (map string_bytes c.args.words.now) c.in_ok-matches.matches c.in-Some.name.now c.in-Some.given.now (Config c.config_of-in-config.result) c.in_ok-faultyard.ensures
     c.in_ok-matches.ensures.matches c.in-Some.ensures.name c.in-Some.ensures.rows (c.in-config.is, c.config_of-in-config.ensures)
+
+pub returns-in-judge-clause-explain : goal.returns-in-judge-clause-explain
+returns-in-judge-clause-explain c = is_explain_of _ (map string_bytes c.args.words.now) c.in_ok-matches.matches c.in-Some.name.now c.in-Some.given.now c.is_set-explain.result c.in_ok-faultyard.ensures
+    c.in_ok-matches.ensures.matches c.in-Some.ensures.name c.in-Some.ensures.rows c.is_set-explain.ensures
+
+pub returns-in-run-clause-explain : goal.returns-in-run-clause-explain
+returns-in-run-clause-explain c = is_explain_of _ (map string_bytes c.args.words.now) c.in_ok-matches.matches c.in-Some.name.now c.in-Some.given.now c.is_set-explain.result c.in_ok-faultyard.ensures
+    c.in_ok-matches.ensures.matches c.in-Some.ensures.name c.in-Some.ensures.rows c.is_set-explain.ensures
+
+pub returns-in-check-clause-explain : goal.returns-in-check-clause-explain
+returns-in-check-clause-explain c = is_explain_of _ (map string_bytes c.args.words.now) c.in_ok-matches.matches c.in-Some.name.now c.in-Some.given.now c.is_set-explain.result c.in_ok-faultyard.ensures
+    c.in_ok-matches.ensures.matches c.in-Some.ensures.name c.in-Some.ensures.rows c.is_set-explain.ensures
+
+pub returns-in-swarm-clause-explain : goal.returns-in-swarm-clause-explain
+returns-in-swarm-clause-explain c = is_explain_of _ (map string_bytes c.args.words.now) c.in_ok-matches.matches c.in-Some.name.now c.in-Some.given.now c.is_set-explain.result c.in_ok-faultyard.ensures
+    c.in_ok-matches.ensures.matches c.in-Some.ensures.name c.in-Some.ensures.rows c.is_set-explain.ensures
+
+pub returns-in-simulate-clause-explain : goal.returns-in-simulate-clause-explain
+returns-in-simulate-clause-explain c = is_explain_of _ (map string_bytes c.args.words.now) c.in_ok-matches.matches c.in-Some.name.now c.in-Some.given.now c.is_set-explain.result c.in_ok-faultyard.ensures
+    c.in_ok-matches.ensures.matches c.in-Some.ensures.name c.in-Some.ensures.rows c.is_set-explain.ensures
+
+pub returns-in-guard-clause-explain : goal.returns-in-guard-clause-explain
+returns-in-guard-clause-explain c = is_explain_of _ (map string_bytes c.args.words.now) c.in_ok-matches.matches c.in-Some.name.now c.in-Some.given.now c.is_set-explain.result c.in_ok-faultyard.ensures
+    c.in_ok-matches.ensures.matches c.in-Some.ensures.name c.in-Some.ensures.rows c.is_set-explain.ensures
+
+pub returns-in-show-clause-explain : goal.returns-in-show-clause-explain
+returns-in-show-clause-explain c = is_explain_of _ (map string_bytes c.args.words.now) c.in_ok-matches.matches c.in-Some.name.now c.in-Some.given.now c.is_set-explain.result c.in_ok-faultyard.ensures
+    c.in_ok-matches.ensures.matches c.in-Some.ensures.name c.in-Some.ensures.rows c.is_set-explain.ensures
+
+pub returns-in-bears-clause-explain : goal.returns-in-bears-clause-explain
+returns-in-bears-clause-explain c = is_explain_of _ (map string_bytes c.args.words.now) c.in_ok-matches.matches c.in-Some.name.now c.in-Some.given.now c.is_set-explain.result c.in_ok-faultyard.ensures
+    c.in_ok-matches.ensures.matches c.in-Some.ensures.name c.in-Some.ensures.rows c.is_set-explain.ensures
+
+pub returns-in-verdict-clause-explain : goal.returns-in-verdict-clause-explain
+returns-in-verdict-clause-explain c = is_explain_of _ (map string_bytes c.args.words.now) c.in_ok-matches.matches c.in-Some.name.now c.in-Some.given.now c.is_set-explain.result c.in_ok-faultyard.ensures
+    c.in_ok-matches.ensures.matches c.in-Some.ensures.name c.in-Some.ensures.rows c.is_set-explain.ensures
+
+pub returns-in-linear-clause-explain : goal.returns-in-linear-clause-explain
+returns-in-linear-clause-explain c = is_explain_of _ (map string_bytes c.args.words.now) c.in_ok-matches.matches c.in-Some.name.now c.in-Some.given.now c.is_set-explain.result c.in_ok-faultyard.ensures
+    c.in_ok-matches.ensures.matches c.in-Some.ensures.name c.in-Some.ensures.rows c.is_set-explain.ensures
+
+pub returns-in-config-clause-explain : goal.returns-in-config-clause-explain
+returns-in-config-clause-explain c = is_explain_of _ (map string_bytes c.args.words.now) c.in_ok-matches.matches c.in-Some.name.now c.in-Some.given.now c.is_set-explain.result c.in_ok-faultyard.ensures
+    c.in_ok-matches.ensures.matches c.in-Some.ensures.name c.in-Some.ensures.rows c.is_set-explain.ensures
 
 pub config_of-requires-in-config : goal.config_of-requires-in-config
 config_of-requires-in-config c = has_config c.in-Some.name.now (codes "config") c.in-Some.given.now c.in-config.is (λ e. omega arith) (λ e. omega arith)
