@@ -1,2 +1,4 @@
 pub mod Columns
+pub mod Cut
 pub mod Tolerated
+pub mod Turned

@@ -1,0 +1,14 @@
+use Rattle.fy_worked.proofs.Cut.{third, second, half, feed}
+use Rattle.fy_worked.proofs.laws.cut.three_lines.Goals as goal
+
+pub returns-clause-third : goal.returns-clause-third
+returns-clause-third c = third
+
+pub returns-clause-second : goal.returns-clause-second
+returns-clause-second c = second
+
+pub returns-clause-half : goal.returns-clause-half
+returns-clause-half c = half
+
+pub returns-clause-feed : goal.returns-clause-feed
+returns-clause-feed c = feed
