@@ -66,3 +66,8 @@ wide ends columns width is are =
     let tenths = are.width.least 2 (ltb-true 0 2 refl) (ltb-true 500000 800000 refl) in
     let is_width : 300000 ≡ are.width.tenths * 100000 = rw width at are.width.is in
     omega arith
+
+pub uneven : (ends : List ℕ) → AreNoColumns 150000 ends
+uneven ends columns width is are =
+    let is_width : 150000 ≡ are.width.tenths * 100000 = rw width at are.width.is in
+    omega arith

@@ -58,8 +58,8 @@ second cut = let is = is_third 2 5 cut in omega arith
 pub half : IsCutAt (codes "a\nbc\nd") 3 6 → ⊥
 half cut = let is = is_third 3 6 cut in omega arith
 
-pub feed : IsCutAt (codes "a\nbc\nd") 3 4 → ⊥
-feed cut = let is = is_third 3 4 cut in omega arith
+pub earlier : IsCutAt (codes "a\nbc\nd") 2 2 → ⊥
+earlier cut = let is = is_third 2 2 cut in omega arith
 
 -- ---- no cut
 

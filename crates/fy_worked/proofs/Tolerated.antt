@@ -20,7 +20,7 @@ use Rattle.fy_worked.specs.Tolerated.{four_processes, in_two_zones, untouched, B
 abbrev pub these : List ℕ → ℕ → Bool
 these xs p = list_any (λ y. nat_eq y p) xs
 
-these_are : (xs : List ℕ) → sets.contains (sets.from_list {R = nat_cmp} xs) ≡ these xs
+pub these_are : (xs : List ℕ) → sets.contains (sets.from_list {R = nat_cmp} xs) ≡ these xs
 these_are xs i p = sets.contains-from_list_nat xs p i
 
 -- whether they are in two zones
@@ -113,13 +113,13 @@ outside part set within p out = elim (part p) as (λ b. part p ≡ b → b ≡ f
   | false ↦ λ e. refl
 ] refl
 
-abbrev one_if : Bool → ℕ
+abbrev pub one_if : Bool → ℕ
 one_if b = cond b 1 0
 
-none : (b : Bool) → b ≡ false → one_if b ≡ 0
+pub none : (b : Bool) → b ≡ false → one_if b ≡ 0
 none b e = ap one_if e
 
-one_at_most : (b : Bool) → one_if b ≤ 1
+pub one_at_most : (b : Bool) → one_if b ≤ 1
 one_at_most true = leb-true 1 1 refl
 one_at_most false = leb-true 0 1 refl
 
@@ -141,15 +141,19 @@ part_of_zone part p within is lacks =
       | inr e ↦ let second = none (part 1) (subst (λ q. part q ≡ false) (sym e) lacks) in omega (arith, one_at_most (part 0))
     ]
 
--- the length of a set of two
-len_two : (x y : ℕ) → nat_eq y x ≡ false → sets.len (sets.from_list {R = nat_cmp} (x ∷ y ∷ [])) ≡ 2
+-- one member more
+pub len_more : (xs : List ℕ) (x : ℕ) → these xs x ≡ false → sets.len (sets.from_list {R = nat_cmp} (x ∷ xs)) ≡ sets.len (sets.from_list {R = nat_cmp} xs) + 1
+len_more xs x new =
+    let size = sets.len (sets.from_list {R = nat_cmp} xs) in
+    sets.len-insert nat_cmp_total (sets.from_list xs) x
+    ∙ ap (λ b. cond b size (size + 1)) (sets.contains-from_list_nat xs x ∙ new)
+
+pub len_two : (x y : ℕ) → these (y ∷ []) x ≡ false → sets.len (sets.from_list {R = nat_cmp} (x ∷ y ∷ [])) ≡ 2
 len_two x y apart =
-    let one : sets.len (sets.from_list {R = nat_cmp} (y ∷ [])) ≡ 1 =
-    sets.len-insert nat_cmp_total sets.empty y ∙ ap (λ b. cond b (sets.len (sets.empty {R = nat_cmp})) (sets.len (sets.empty {R = nat_cmp}) + 1)) (sets.contains-empty nat_cmp y) ∙ ap (λ n. n + 1) (sets.len-empty nat_cmp) in
-    let has : sets.contains (sets.from_list {R = nat_cmp} (y ∷ [])) x ≡ false = sets.contains-from_list_nat (y ∷ []) x ∙ ap (λ b. b || false) apart in
-    sets.len-insert nat_cmp_total (sets.from_list (y ∷ [])) x
-    ∙ ap (λ b. cond b (sets.len (sets.from_list {R = nat_cmp} (y ∷ []))) (sets.len (sets.from_list {R = nat_cmp} (y ∷ [])) + 1)) has
-    ∙ ap (λ n. n + 1) one
+    let none = sets.len-empty nat_cmp in
+    let one = len_more [] y refl in
+    let two = len_more (y ∷ []) x apart in
+    omega arith
 
 at_most_one : (count : ℕ) → (2 ≤ count → ⊥) → count ≤ 1
 at_most_one zero not_two = leb-true 0 1 refl

@@ -11,5 +11,6 @@ pub fn five_entries()
     ensures short { AreNoColumns 200000 (2 ∷ 3 ∷ []) }
     ensures long { AreNoColumns 200000 (2 ∷ 3 ∷ 5 ∷ 5 ∷ []) }
     ensures narrow { AreNoColumns 100000 (2 ∷ 2 ∷ 3 ∷ 3 ∷ []) }
+    ensures uneven { AreNoColumns 150000 (2 ∷ 3 ∷ 3 ∷ 5 ∷ []) }
     ensures wide { AreNoColumns 300000 (3 ∷ 5 ∷ []) }
 {}

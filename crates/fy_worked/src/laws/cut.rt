@@ -8,7 +8,7 @@ pub fn three_lines()
     ensures third { IsCutAt (codes "a\nbc\nd") 3 5 }
     ensures second { IsCutAt (codes "a\nbc\nd") 2 5 → ⊥ }
     ensures half { IsCutAt (codes "a\nbc\nd") 3 6 → ⊥ }
-    ensures feed { IsCutAt (codes "a\nbc\nd") 3 4 → ⊥ }
+    ensures earlier { IsCutAt (codes "a\nbc\nd") 2 2 → ⊥ }
 {}
 
 /// No line is cut where the last has its line feed, where there is none, and where the first is

@@ -1,4 +1,4 @@
-use Rattle.fy_worked.proofs.Columns.{right, at_the_end, left_out, short, long, narrow, wide}
+use Rattle.fy_worked.proofs.Columns.{right, at_the_end, left_out, short, long, narrow, uneven, wide}
 use Rattle.fy_worked.proofs.laws.columns.five_entries.Goals as goal
 
 pub returns-clause-right : goal.returns-clause-right
@@ -18,6 +18,9 @@ returns-clause-long c = long
 
 pub returns-clause-narrow : goal.returns-clause-narrow
 returns-clause-narrow c = narrow _
+
+pub returns-clause-uneven : goal.returns-clause-uneven
+returns-clause-uneven c = uneven _
 
 pub returns-clause-wide : goal.returns-clause-wide
 returns-clause-wide c = wide _

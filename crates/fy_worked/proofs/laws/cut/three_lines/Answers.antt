@@ -1,4 +1,4 @@
-use Rattle.fy_worked.proofs.Cut.{third, second, half, feed}
+use Rattle.fy_worked.proofs.Cut.{third, second, half, earlier}
 use Rattle.fy_worked.proofs.laws.cut.three_lines.Goals as goal
 
 pub returns-clause-third : goal.returns-clause-third
@@ -10,5 +10,5 @@ returns-clause-second c = second
 pub returns-clause-half : goal.returns-clause-half
 returns-clause-half c = half
 
-pub returns-clause-feed : goal.returns-clause-feed
-returns-clause-feed c = feed
+pub returns-clause-earlier : goal.returns-clause-earlier
+returns-clause-earlier c = earlier
