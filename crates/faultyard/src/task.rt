@@ -162,7 +162,7 @@ fn explain<'a>(alloc: Global) -> Arg<'a>
 
 /// The subcommand with that flag besides.
 fn explained<'a>(alloc: Global, command: Command<'a>) -> Result<Command<'a>, AllocError>
-    ensures { IfOk result (λ with_flag. app_of with_flag ≡ explained (app_of command)) }
+    ensures { IfOk result (λ with_flag. app_of with_flag ≡ explained (app_of command.entry)) }
 {
     command.arg(explain(alloc))
 }
