@@ -46,7 +46,8 @@ parser_for id =
     else (if bytes_eq id (codes "acts") then Unsigned 0 largest_seed
     else (if bytes_eq id (codes "json") then Flag
     else (if bytes_eq id (codes "fresh") then Flag
-    else (if bytes_eq id (codes "questions") then Flag else String))))
+    else (if bytes_eq id (codes "questions") then Flag
+    else (if bytes_eq id (codes "explain") then Flag else String)))))
 
 -- the parser passes each of these
 abbrev pub PassAll : ValueParser → List Text → Type 0

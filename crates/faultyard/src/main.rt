@@ -37,7 +37,7 @@ use std::process::ExitCode;
 use std::sync::Wait;
 use std::thread::Threads;
 use std::{env, fs, slice};
-use task::{Asked, Task, read_task};
+use task::{Task, read_task};
 
 /// The status of a program whose words are no command.
 const USAGE: u8 = 2;
@@ -80,15 +80,20 @@ fn main(rt: HostRuntime) -> ExitCode {
     };
     match read_task(rt.alloc(), words.as_slice()) {
         // Threads are main's to give.
-        Ok(asked) => carry_out(&rt, &rt, asked),
+        Ok((task, explain)) => carry_out(&rt, &rt, task, explain),
         Err(error) => answered(&rt, &error),
     }
 }
 
-/// Does what was asked for, and gives the status to end with.
-fn carry_out<R: Threads + Wait + Sync>(rt: &HostRuntime, threads: &R, asked: Asked) -> ExitCode {
-    let named = asked.named();
-    let done = match asked.task {
+/// Carries out a task, where a fault is explained or not, and gives the status to end with.
+fn carry_out<R: Threads + Wait + Sync>(
+    rt: &HostRuntime,
+    threads: &R,
+    task: Task,
+    explain: bool,
+) -> ExitCode {
+    let named = task.named(explain);
+    let done = match task {
         Task::Judge => judge_input(rt),
         Task::Run(path) => run_file(rt, path),
         Task::Check(path) => check_file(rt, path),

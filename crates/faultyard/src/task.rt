@@ -99,26 +99,16 @@ pub enum Task<'a> {
 /// Standard input by a path, which leads to its file where it is one.
 const STANDARD_INPUT: &str = "/dev/stdin";
 
-/// What the words of the command line ask for.
-#[derive(Clone, Copy, Debug, PartialEq, Eq)]
-pub struct Asked<'a> {
-    pub task: Task<'a>,
-    /// Whether `--explain` is among them: a fault is explained, whatever standard error is.
-    pub explain: bool,
-}
-
-impl<'a> Asked<'a> {
-    /// What a fault may be about, and whether it is explained in any case.
-    pub fn named(&self) -> Named<'a> {
+impl<'a> Task<'a> {
+    /// What a fault of it may be about, and whether it is explained, whatever standard error is.
+    pub fn named(&self, explain: bool) -> Named<'a> {
         Named {
-            files: self.task.files(),
-            audit: self.task.audit(),
-            explain: self.explain,
+            files: self.files(),
+            audit: self.audit(),
+            explain,
         }
     }
-}
 
-impl<'a> Task<'a> {
     /// The files that it names, the cluster file first.
     fn files(&self) -> [Option<&'a str>; 2] {
         match *self {
@@ -487,17 +477,18 @@ fn faultyard<'a>(alloc: Global) -> Result<Command<'a>, AllocError>
         .subcommand(explained(alloc, config_check(alloc)?)?)
 }
 
-/// What the words ask for; the first word is the program's name.
+/// The task that the words ask for, and whether `--explain` is among them; the first word is the
+/// program's name.
 ///
 /// # Errors
 ///
 /// The errors of `clap`, for help and the version too, whose kinds are `DisplayHelp` and
 /// `DisplayVersion`. An allocation failure has the kind `OutOfMemory`.
-pub fn read_task<'a>(alloc: Global, words: &'a [String]) -> Result<Asked<'a>, clap::Error>
-    ensures task { IfOk result (λ asked.
-        IsTaskOf (subcommand_of faultyard_command (map string_bytes words.now)) asked.task) }
-    ensures explain { IfOk result (λ asked.
-        IsExplainOf (subcommand_of faultyard_command (map string_bytes words.now)) asked.explain) }
+pub fn read_task<'a>(alloc: Global, words: &'a [String]) -> Result<(Task<'a>, bool), clap::Error>
+    ensures task { IfOk result (λ read.
+        IsTaskOf (subcommand_of faultyard_command (map string_bytes words.now)) read.0) }
+    ensures explain { IfOk result (λ read.
+        IsExplainOf (subcommand_of faultyard_command (map string_bytes words.now)) read.1) }
     ensures refused { FailsBy (fault_of faultyard_command (map string_bytes words.now)) result }
 {
     let matches = faultyard(alloc)?.try_get_matches_from(words)?;
@@ -505,39 +496,46 @@ pub fn read_task<'a>(alloc: Global, words: &'a [String]) -> Result<Asked<'a>, cl
         unreachable!();
     };
     let explain = is_set(given, "explain");
-    let task = match name {
-        "judge" => Task::Judge,
-        "run" => Task::Run(config_of(given)),
-        "check" => Task::Check(config_of(given)),
-        "swarm" => Task::Swarm(config_of(given), seed_of(given)),
-        "simulate" => {
+    match name {
+        "judge" => Ok((Task::Judge, explain)),
+        "run" => Ok((Task::Run(config_of(given)), explain)),
+        "check" => Ok((Task::Check(config_of(given)), explain)),
+        "swarm" => Ok((Task::Swarm(config_of(given), seed_of(given)), explain)),
+        "simulate" => Ok((
             Task::Simulate(
                 config_of(given),
                 seed_of(given),
                 acts_of(given),
                 plan_of(given),
-            )
-        }
-        "guard" => Task::Guard(
-            config_of(given),
-            after_of(given),
-            is_set(given, "questions"),
-        ),
-        "show" => Task::Show(config_of(given), times_of(given)),
-        "bears" => {
+            ),
+            explain,
+        )),
+        "guard" => Ok((
+            Task::Guard(
+                config_of(given),
+                after_of(given),
+                is_set(given, "questions"),
+            ),
+            explain,
+        )),
+        "show" => Ok((Task::Show(config_of(given), times_of(given)), explain)),
+        "bears" => Ok((
             Task::Bears(
                 config_of(given),
                 form_of(given),
                 after_of(given),
                 elections_of(given),
-            )
-        }
-        "verdict" => Task::Verdict(config_of(given), audit_of(given), is_set(given, "fresh")),
-        "linear" => Task::Linear,
-        "config" => Task::Config(config_of(given)),
+            ),
+            explain,
+        )),
+        "verdict" => Ok((
+            Task::Verdict(config_of(given), audit_of(given), is_set(given, "fresh")),
+            explain,
+        )),
+        "linear" => Ok((Task::Linear, explain)),
+        "config" => Ok((Task::Config(config_of(given)), explain)),
         _ => unreachable!(),
-    };
-    Ok(Asked { task, explain })
+    }
 }
 
 /// The cluster file among the words of a subcommand that takes one.
