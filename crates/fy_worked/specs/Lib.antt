@@ -1,3 +1,4 @@
 pub mod Columns
+pub mod Simulated
 pub mod Tolerated
 pub mod Turns

@@ -2,5 +2,6 @@
 //! of such answers with one thing turned that it refuses them.
 pub mod columns;
 pub mod cut;
+pub mod simulated;
 pub mod tolerated;
 pub mod turns;
