@@ -3,12 +3,12 @@ use Rattle.std.proofs.Common.{◌≡◌, ℕ, zero, suc, ◌+◌, ◌*◌, ◌<�
 use Rattle.fy_events.specs.Columns.{IsTimeWidth, end_at}
 use Rattle.fy_worked.specs.Columns.{events, AreColumns, AreNoColumns}
 
-two_tenths : IsTimeWidth 4 500000 200000
+two_tenths : IsTimeWidth 4 400000 200000
 two_tenths = record {
   tenths = 2;
   is = refl;
   some = ltb-true 0 2 refl;
-  room = ltb-true 500000 800000 refl;
+  room = ltb-true 400000 800000 refl;
   least = λ other some room. omega arith;
 }
 
@@ -20,9 +20,9 @@ ends (suc (suc (suc k))) within = absurd (omega arith)
 
 pub right : AreColumns 200000 (2 ∷ 3 ∷ 5 ∷ [])
 right columns width is = record {
-  width = subst (IsTimeWidth 4 500000) (sym width) two_tenths;
+  width = subst (IsTimeWidth 4 400000) (sym width) two_tenths;
   few = rw is (leb-true 3 4 refl);
-  reach = rw (width, is) (ltb-true 500000 600000 refl);
+  reach = rw (width, is) (ltb-true 400000 600000 refl);
   least = rw (width, is) (λ other reach. omega arith);
   each = rw (width, is) ends;
 }
@@ -47,23 +47,23 @@ left_out = other_end 200000 2 4 (2 ∷ 3 ∷ 4 ∷ []) (ltb-true 2 3 refl) refl 
 
 pub short : AreNoColumns 200000 (2 ∷ 3 ∷ [])
 short columns width is are =
-    let reach : 500000 < 2 * 200000 = rw (width, is) at are.reach in
+    let reach : 400000 < 2 * 200000 = rw (width, is) at are.reach in
     omega arith
 
 pub long : AreNoColumns 200000 (2 ∷ 3 ∷ 5 ∷ 5 ∷ [])
 long columns width is are =
-    let few : 500000 < 3 * 200000 → 4 ≤ 3 = rw (width, is) at (are.least 3) in
-    let too_few = few (ltb-true 500000 600000 refl) in
+    let few : 400000 < 3 * 200000 → 4 ≤ 3 = rw (width, is) at (are.least 3) in
+    let too_few = few (ltb-true 400000 600000 refl) in
     omega arith
 
 pub narrow : (ends : List ℕ) → AreNoColumns 100000 ends
 narrow ends columns width is are =
-    let room : 500000 < 4 * 100000 = rw width at are.width.room in
+    let room : 400000 < 4 * 100000 = rw width at are.width.room in
     omega arith
 
 pub wide : (ends : List ℕ) → AreNoColumns 300000 ends
 wide ends columns width is are =
-    let tenths = are.width.least 2 (ltb-true 0 2 refl) (ltb-true 500000 800000 refl) in
+    let tenths = are.width.least 2 (ltb-true 0 2 refl) (ltb-true 400000 800000 refl) in
     let is_width : 300000 ≡ are.width.tenths * 100000 = rw width at are.width.is in
     omega arith
 

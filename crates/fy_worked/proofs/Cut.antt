@@ -85,11 +85,23 @@ nothing number is =
     let all = ap length cut.split ∙ length-append (with_feeds cut.lines) cut.half in
     omega arith
 
-pub long : (bytes line : List ℕ) (more : List (List ℕ)) → lines_of bytes ≡ line ∷ more → 65536 < length line → IsUncut bytes
-long bytes line more are many number is =
+pub longer : (bytes line : List ℕ) (more : List (List ℕ)) → lines_of bytes ≡ line ∷ more → 65536 < length line → IsUncut bytes
+longer bytes line more are many number is =
     let cut = is.1 in
     at cut.lines cut.half cut.each cut.short.1 (sym are ∙ cut_lines bytes number is.0 cut)
   where
     at : (lines : List (List ℕ)) (half : List ℕ) → AllByRecursion IsShortLine lines → length half ≤ 65536 → line ∷ more ≡ lines ++ half ∷ [] → ⊥
     at [] half each short e = let same : line ≡ half = cc in let size = ap length same in omega arith
     at (one ∷ lines) half each short e = let same : line ≡ one = cc in let size = ap length same in let few = each.0.1 in omega arith
+
+pub longest : (line : List ℕ) → IsLine line → length line ≡ 65536 → IsCutAt line 1 0
+longest line is long = record {
+  lines = [];
+  half = line;
+  split = refl;
+  each = tt;
+  short = (is, omega arith);
+  some = omega arith;
+  at = refl;
+  before = refl;
+}

@@ -10,9 +10,9 @@ abbrev pub event : (entry micros : ℕ) → Event
 event entry micros = record { entry = entry; micros = micros; done = Untold }
 
 -- of five entries the first came at once, the third after two tenths of a second and the fourth
--- after half a second
+-- after four
 abbrev pub events : List Event
-events = event 0 0 ∷ event 2 200000 ∷ event 3 500000 ∷ []
+events = event 0 0 ∷ event 2 200000 ∷ event 3 400000 ∷ []
 
 -- they have columns of this width, of at most four, with so many entries by the end of each
 abbrev pub AreColumns : (width : ℕ) → (ends : List ℕ) → Type 0

@@ -1,4 +1,4 @@
-use Rattle.fy_worked.proofs.Cut.{whole, nothing, long}
+use Rattle.fy_worked.proofs.Cut.{whole, nothing}
 use Rattle.fy_worked.proofs.laws.cut.uncut.Goals as goal
 
 pub returns-clause-whole : goal.returns-clause-whole
@@ -6,6 +6,3 @@ returns-clause-whole c = whole
 
 pub returns-clause-nothing : goal.returns-clause-nothing
 returns-clause-nothing c = nothing
-
-pub returns-clause-long : goal.returns-clause-long
-returns-clause-long c = long
