@@ -9,6 +9,7 @@ import json
 import re
 from collections.abc import Callable
 from dataclasses import dataclass
+from pathlib import Path
 from typing import Any
 
 Words = dict[str, Any]
@@ -471,6 +472,12 @@ PYTHON = (
         lambda table: set(table["replies"]),
     ),
     Place(
+        "bindings/python/src/faultyard/guard.py",
+        "acts",
+        calls_of(r'self\._(?:expect\(\w+, |make\()by, "(\w+)"'),
+        acts_as(str),
+    ),
+    Place(
         "bindings/python/src/faultyard/told.py",
         "answer sight",
         listed(r"^class Sight:", r"^@dataclass", r"\n    (\w+): "),
@@ -738,6 +745,116 @@ OTHERS = (
         listed(r"^KINDS = \(", r"\)"),
         lambda table: list(table["kinds"])[::-1],
     ),
+    Place("tools/counts.py", "rules", listed(r"^RULES = \(", r"\)"), words_of("rules")),
+    Place("tools/counts.py", "refusals", listed(r"^REFUSALS = \(", r"^\)"), words_of("refusals")),
+    # A verdict and a refusal are counted by what they say.
+    Place(
+        "tools/counts.py",
+        "replies",
+        lambda text: set(listed(r"^REPLIES = \(", r"\)")(text)),
+        lambda table: set(table["replies"]) - {"verdict", "no"},
+    ),
+    Place(
+        PAGE, "rules", listed(r"^const RULES = {", r"^};", r"(?m)^  (\w+): \("), words_of("rules")
+    ),
+)
+
+
+ROOT = Path(__file__).resolve().parents[2]
+PLANS_PY, FORMS_PY = "bindings/python/src/faultyard/plans.py", "tools/nemesis/disturbances.py"
+
+
+def plans_of_nemesis(_: Words) -> set[str]:
+    """What `--plan` of faultyard-nemesis takes, as its tool has it: orders and disturbances."""
+    orders = listed(r"^PLANS = \(", r"\)$")((ROOT / PLANS_PY).read_text())
+    forms = (ROOT / FORMS_PY).read_text()
+    return {*orders, *listed(r"^FORMS: .* = {$", r"^}", r'(?m)^    "([\w-]+)": ')(forms)}
+
+
+def beside_plans(table: Words) -> set[str]:
+    """What `--beside` takes: disturbances, and partitions."""
+    orders = listed(r"^PLANS = \(", r"\)$")((ROOT / PLANS_PY).read_text())
+    return plans_of_nemesis(table) - {*orders} | {"partition"}
+
+
+def plans_in(begin: str, end: str, word: str = r"[\w-]+") -> Callable[[str], set[str]]:
+    """The plans between two patterns, which may stand there more than once."""
+
+    def read(text: str) -> set[str]:
+        parts = re.findall(rf"(?s){begin}(.*?){end}", text)
+        return {it.replace("\\", "") for part in parts for it in re.findall(word, part)}
+
+    return read
+
+
+def plans_in_zsh(text: str) -> set[str]:
+    """Those of `--plan`, which go on with those of `--beside`."""
+    plans = plans_in(r'local plans="mixed', r' \$beside"')(text)
+    return plans | plans_in("local beside='", "'")(text) | {"mixed"}
+
+
+BASH, FISH, ZSH = (
+    f"release/completions/{it}"
+    for it in ("bash/faultyard-nemesis", "fish/faultyard-nemesis.fish", "zsh/_faultyard")
+)
+NEMESIS_1, IN_MAN = "release/man/faultyard-nemesis.1", r"(?m)^\.BR? ([a-z][\w\\-]+)(?: ,)?$"
+NEMESIS = tuple(
+    Place(path, what, read, plans_of_nemesis if what == "--plan" else beside_plans)
+    for path, what, read in (
+        (BASH, "--plan", plans_in('local plans="', '"')),
+        (BASH, "--beside", plans_in('local beside="', '"')),
+        (FISH, "--plan", plans_in(r'-l plan -x \\\n    -a "', '"')),
+        (FISH, "--beside", plans_in('-l beside -x -a "', '"')),
+        (ZSH, "--plan", plans_in_zsh),
+        (ZSH, "--beside", plans_in("local beside='", "'")),
+        (NEMESIS_1, "--plan", plans_in(r'\n\.BI \\-\\-plan " PLAN"\n', r"\n\.TP\n", IN_MAN)),
+        (NEMESIS_1, "--beside", plans_in(r'\n\.BI \\-\\-beside " PLANS"\n', r"\n\.TP\n", IN_MAN)),
+        (
+            "docs/NEMESIS.md",
+            "--plan",
+            plans_in(r"\n\| `--plan ", r" \|", r"^[\w-]+|(?<=`)[a-z-]+(?=`)"),
+        ),
+    )
+)
+
+# What a test would leave out, and pass, if it didn't know the word.
+TESTS = (
+    Place(
+        "tests/simulate/coverage",
+        "rules",
+        lambda text: set(listed(r"^RULES = \(", r"\)")(text)),
+        lambda table: set(table["rules"]),
+    ),
+    Place(
+        "tests/simulate/coverage",
+        "kinds",
+        listed(r"^KINDS = \(", r"\)"),
+        words_of("kinds"),
+    ),
+    Place(
+        "tests/show/history.py",
+        "rules",
+        listed(r"^RULES = {", r"^}", r'(?m)^    "(\w+)":'),
+        words_of("rules"),
+    ),
+    Place(
+        "tests/bindings/python/played.py",
+        "acts",
+        lambda text: set(listed(r"^TYPED = {", r"^}", r'(?m)^    "(\w+)":')(text)),
+        acts_as(str),
+    ),
+    Place(
+        "tests/bindings/python/test_guard.py",
+        "acts",
+        lambda text: set(listed(r"^CALLS = \[", r"^\]", r"lambda g: g\.(\w+)\(")(text)),
+        acts_as(str),
+    ),
+    Place(
+        "tests/bindings/python/common.py",
+        "acts",
+        lambda text: set(re.findall(r'{"(\w+)": (?:{|self\.target)', text)),
+        acts_as(str),
+    ),
 )
 
 
@@ -930,4 +1047,15 @@ MAJOR = Place(
 )
 
 BINDINGS = (*C, *CPP, *GO, *RUST, *PYTHON, *JAVA_PLACES)
-PLACES = (*BINDINGS, *OTHERS, *VERSIONS, *LIMITS, *EXPECTED, *LOSSES, NUMBER_OF_C, MAJOR)
+PLACES = (
+    *BINDINGS,
+    *OTHERS,
+    *NEMESIS,
+    *TESTS,
+    *VERSIONS,
+    *LIMITS,
+    *EXPECTED,
+    *LOSSES,
+    NUMBER_OF_C,
+    MAJOR,
+)

@@ -15,6 +15,7 @@ import hook_lines
 import layers
 import limits
 import questions
+import recipes
 import targets
 import words
 from source import ROOT, PagesError
@@ -35,6 +36,7 @@ PARTS: tuple[tuple[str, str, Callable[[], str]], ...] = (
     ("docs/CONTRACTS.md", "contracts", contracts.made),
     ("docs/ARCHITECTURE.md", "crates", layers.crate_table),
     ("docs/CONTRIBUTING.md", "targets", targets.made),
+    ("docs/CONTRIBUTING.md", "recipes", recipes.made),
     ("docs/HOOKS.md", "hooks", hook_lines.made),
     ("docs/GUARD.md", "faults", faults.made),
     ("docs/FORMATS.md", "acts", acts.acts),

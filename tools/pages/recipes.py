@@ -1,0 +1,89 @@
+"""The recipes of docs/CONTRIBUTING.md: which files a change touches by hand, and how many.
+
+They stand in recipes.toml. Each file has to be there. Of an enum whose words are in
+release/words.toml, a file that has all of them has to stand in the recipe, so that none is
+forgotten where a new word of it comes.
+"""
+
+from __future__ import annotations
+
+import re
+import tomllib
+from collections.abc import Iterator
+from itertools import product
+from typing import Any
+
+import acts
+from names import files
+from source import ROOT, PagesError
+from tables import cell, table
+
+Recipe = dict[str, Any]
+
+# What stands before a word in the names of C and of the bindings, once they have no `_`.
+BEFORE = "fy|rule|kinds|put"
+IMPORTS = re.compile(r"(?m)^\s*(?:pub )?(?:ghost )?use .*$")
+
+
+def recipes() -> list[Recipe]:
+    return list(tomllib.loads((ROOT / "tools/pages/recipes.toml").read_text())["recipe"])
+
+
+def spread(pattern: str) -> list[str]:
+    """The paths of a pattern, in whose braces names are parted by commas."""
+    return ["".join(it) for it in product(*(it.split(",") for it in re.split("[{}]", pattern)))]
+
+
+def touched(recipe: Recipe) -> list[str]:
+    """The files of a recipe, each once."""
+    its = (path for step in recipe["step"] for it in step["files"] for path in spread(it))
+    return list(dict.fromkeys(its))
+
+
+def has_all(text: str, words: list[str]) -> bool:
+    """Whether each word stands in a text, as a word or as a constant of some language."""
+    plain = IMPORTS.sub("", text).replace("_", "").lower()
+    spelled = {word: name.lower() for name, word in acts.NAMES.items()}
+    for word in (it.lower().replace("_", "") for it in words):
+        either = f"{word}|{spelled[word]}" if word in spelled else word
+        if not re.search(rf"(?<![a-z])(?:{BEFORE})?(?:{either})(?![a-z])", plain):
+            return False
+    return True
+
+
+def forgotten(recipe: Recipe) -> Iterator[str]:
+    """The files that have all words of the recipe's enum, and don't stand in it."""
+    if "words" not in recipe:
+        return
+    words = [*tomllib.loads((ROOT / "release/words.toml").read_text())[recipe["words"]]]
+    there = {*touched(recipe), *recipe.get("others", ()), "release/words.toml"}
+    for path in files():
+        name = str(path.relative_to(ROOT))
+        if name not in there and has_all(path.read_text(errors="replace"), words):
+            yield f"{name} has all {recipe['words']}, and isn't in the recipe for {recipe['what']}"
+
+
+def wrong() -> Iterator[str]:
+    for recipe in recipes():
+        for name in (*touched(recipe), *recipe.get("others", ())):
+            if not (ROOT / name).is_file():
+                yield f"the recipe for {recipe['what']} names {name}, which isn't there"
+        yield from forgotten(recipe)
+
+
+def rows(recipe: Recipe) -> Iterator[tuple[str, str, str]]:
+    for step in recipe["step"]:
+        yield ", ".join(f"`{it}`" for it in step["files"]), cell(step["does"]), cell(step["told"])
+
+
+def made() -> str:
+    """A table for each recipe, below a heading that has its count."""
+    for why in wrong():
+        raise PagesError(why)
+    parts = []
+    for it in recipes():
+        what, like, count = it["what"], it["like"], len(touched(it))
+        heads = ("Files", "What", "A forgotten one is told by")
+        parts += [f"### {what[0].upper()}{what[1:]}: {count} files, as `{like}`"]
+        parts += [table(heads, rows(it))]
+    return "\n\n".join(parts)
