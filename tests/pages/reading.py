@@ -15,6 +15,7 @@ import limits
 import made
 import names
 import questions
+import recipes
 import source
 
 REAL = source.ROOT
@@ -258,6 +259,39 @@ class Questions(unittest.TestCase):
         for name in ("clogged", "keeper", "deliverable", "entries", "data_hall", "scope"):
             rest = [(asked, text.replace(f'"{name}":', '"x":')) for asked, text in lines]
             self.assertRaises(made.PagesError, questions.check, rest)
+
+
+class Recipes(unittest.TestCase):
+    def setUp(self) -> None:
+        self.addCleanup(setattr, recipes, "recipes", recipes.recipes)
+
+    def wrong(self, **recipe: object) -> list[str]:
+        setattr(recipes, "recipes", lambda: [{"what": "a rule", "step": []} | recipe])
+        return [*recipes.wrong()]
+
+    def test_braces_part_names(self) -> None:
+        self.assertEqual(
+            recipes.spread("a/{b,c/d}.{h,rt}"), "a/b.h a/b.rt a/c/d.h a/c/d.rt".split()
+        )
+
+    def test_a_file_of_a_recipe_is_there(self) -> None:
+        step = {"files": ["Makefile", "crates/{fy_kinds,fy_king}/src/lib.rt"]}
+        told = ["the recipe for a rule names crates/fy_king/src/lib.rt, which isn't there"]
+        self.assertEqual(self.wrong(step=[step]), told)
+
+    def test_a_file_with_all_words_is_in_the_recipe(self) -> None:
+        name = "crates/fy_kinds/src/verdict.rt"
+        told = f"{name} has all rules, and isn't in the recipe for a rule"
+        self.assertIn(told, self.wrong(words="rules"))
+        self.assertNotIn(told, self.wrong(words="rules", step=[{"files": [name]}]))
+        self.assertNotIn(told, self.wrong(words="rules", others=[name]))
+
+    def test_a_word_may_be_a_constant_or_a_variant(self) -> None:
+        words = ["copy", "TooFewLeft"]
+        for text in "copy TooFewLeft", "fy_copy( FY_TOO_FEW_LEFT", "Act::CopyTo RULE_TOO_FEW_LEFT":
+            self.assertTrue(recipes.has_all(text, words), text)
+        for text in "copy", "recopy TooFewLeft", "copied TooFewLeft", "use a.{copy, TooFewLeft}":
+            self.assertFalse(recipes.has_all(text, words), text)
 
 
 class Marks(unittest.TestCase):

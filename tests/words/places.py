@@ -817,6 +817,32 @@ NEMESIS = tuple(
     )
 )
 
+# An order is an act that every role may make. Where one is left out, it is drawn as another act.
+
+
+def orders(_: Words) -> set[str]:
+    text = (ROOT / "crates/fy_cluster/specs/Replies.antt").read_text()
+    return set(re.findall(r"(?m)^may role \((\w+).*\) = true$", text))
+
+
+def arms(function: str) -> Callable[[str], set[str]]:
+    """The acts that have an arm of their own in a function of Rattle."""
+    head = rf"^(?:pub )?fn {function}\("
+    return lambda text: set(re.findall(r"\bAct::(\w+)", part_of(text, head, r"^}")))
+
+
+ORDERS = (
+    Place("crates/fy_picture/src/glyph.rt", "orders", arms("struck_as_ordered"), orders),
+    Place("crates/fy_svg/src/glyphs.rt", "orders", arms("hardness"), orders),
+    Place("crates/fy_svg/src/words.rt", "orders", arms("write_deed"), orders),
+    Place(
+        "tests/show/history.py",
+        "orders",
+        lambda text: set(re.findall(r'act\.get\("(\w+)"\)', part_of(text, r"^ +order = ", r"$"))),
+        lambda table: {it.lower() for it in orders(table)},
+    ),
+)
+
 # What a test would leave out, and pass, if it didn't know the word.
 TESTS = (
     Place(
@@ -1051,6 +1077,7 @@ PLACES = (
     *BINDINGS,
     *OTHERS,
     *NEMESIS,
+    *ORDERS,
     *TESTS,
     *VERSIONS,
     *LIMITS,

@@ -9,7 +9,7 @@ from __future__ import annotations
 
 import re
 
-from source import ROOT
+from source import ROOT, PagesError
 from tables import cell, table
 
 # A variant of an enum with its comment, and the names of its fields.
@@ -96,6 +96,8 @@ def acts() -> str:
     rows = []
     for name, says, _ in variants("fy_acts/src/act.rt", "Act"):
         act = NAMES.get(name, name.lower())
+        if name not in may or name not in refused:
+            raise PagesError(f"Replies.antt doesn't say who may make {name}, or its refusals")
         shown = [f"`{it}`" for it in EXAMPLES if it.startswith(f'{{"{act}":')]
         why = ", ".join(f"`{it}`" for it in refused[name])
         rows.append((f"`{act}`", may[name], told(says), why, ", ".join(shown)))
