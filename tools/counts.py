@@ -26,40 +26,17 @@ from pathlib import Path
 from typing import Any
 
 sys.dont_write_bytecode = True
+HERE = Path(__file__).resolve().parent
+# The package of a checkout, or of an installation.
+PACKAGES = (HERE.parent / "bindings", HERE.parent.parent / "share/faultyard/bindings")
+sys.path[:0] = [str(it / "python/src") for it in PACKAGES]
 
 from command_line import printed  # noqa: E402
+from faultyard import Kind, Refusal, Rule  # noqa: E402
 
-KINDS = ("KillInstantly", "RebootAndDelete", "Reboot", "RebootProcess")
+KINDS = tuple(it.value for it in Kind if it is not Kind.CLOG)[::-1]
 DESTROYING = KINDS[:2]
-RULES = ("NoTarget", "NoGrant", "Protected", "TooManyDestroyed", "TooFewLeft")
-REFUSALS = (
-    *(
-        "Stranger",
-        "WrongRole",
-        "TooMany",
-        "NoPolicy",
-        "NoProcess",
-        "Gone",
-        "TeamShort",
-        "NoTeam",
-        "Payload",
-        "NetFull",
-    ),
-    *(
-        "NoMessage",
-        "Clogged",
-        "NotUp",
-        "NoRecord",
-        "NotMember",
-        "Acked",
-        "IsUp",
-        "ClockEnd",
-        "NoActor",
-        "Full",
-        "NoSuch",
-    ),
-    *("NoCopy", "IsMember", "NotDestroyed", "StillNeeds"),
-)
+RULES, REFUSALS = (tuple(it.value for it in words) for words in (Rule, Refusal))
 REPLIES = ("formed", "begun", "stored", "marked", "sent", "synced", "time", "done", "ruled")
 ROWS = (
     "entries",

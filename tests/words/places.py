@@ -739,14 +739,6 @@ OTHERS = (
         lambda text: set(re.findall(r'^kind = "(\w+)"$', text, re.M)) - {"null"},
         lambda table: set(table["kinds"]),
     ),
-    Place(
-        "tools/counts.py",
-        "kinds",
-        listed(r"^KINDS = \(", r"\)"),
-        lambda table: list(table["kinds"])[::-1],
-    ),
-    Place("tools/counts.py", "rules", listed(r"^RULES = \(", r"\)"), words_of("rules")),
-    Place("tools/counts.py", "refusals", listed(r"^REFUSALS = \(", r"^\)"), words_of("refusals")),
     # A verdict and a refusal are counted by what they say.
     Place(
         "tools/counts.py",
@@ -843,20 +835,26 @@ ORDERS = (
     ),
 )
 
-# What a test would leave out, and pass, if it didn't know the word.
-TESTS = (
+# What pictures say of each kind.
+LEGENDS = (
     Place(
-        "tests/simulate/coverage",
-        "rules",
-        lambda text: set(listed(r"^RULES = \(", r"\)")(text)),
-        lambda table: set(table["rules"]),
-    ),
-    Place(
-        "tests/simulate/coverage",
-        "kinds",
-        listed(r"^KINDS = \(", r"\)"),
+        "crates/fy_svg/src/frame.rt",
+        "kinds of the legend",
+        lambda text: re.findall(
+            r'"([A-Z]\w+)"', part_of(text, r"^const ORDERS: [^=]* = \[", r"^\];")
+        ),
         words_of("kinds"),
     ),
+    Place(
+        "tools/nemesis/picture.py",
+        "kinds",
+        listed(r"^SHORT = {", r"^}", r"Kind\.(\w+): \("),
+        lambda table: [upper(it) for it in table["deeds"]],
+    ),
+)
+
+# What a test would leave out, and pass, if it didn't know the word.
+TESTS = (
     Place(
         "tests/show/history.py",
         "rules",
@@ -1078,6 +1076,7 @@ PLACES = (
     *OTHERS,
     *NEMESIS,
     *ORDERS,
+    *LEGENDS,
     *TESTS,
     *VERSIONS,
     *LIMITS,
