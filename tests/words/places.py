@@ -861,6 +861,13 @@ TESTS = (
         listed(r"^RULES = {", r"^}", r'(?m)^    "(\w+)":'),
         words_of("rules"),
     ),
+    # Random journals, which two replayers have to find alike. A fixture makes each Form.
+    Place(
+        "tests/crates/fy_cluster_tests/src/replay/random.rt.in",
+        "acts",
+        lambda text: set(re.findall(r"\bAct::(\w+)", text.partition("match *act {")[0])),
+        lambda table: {camel(it) for it in table["acts"]} - {"Form", "Copy"} | {"CopyTo"},
+    ),
     Place(
         "tests/bindings/python/played.py",
         "acts",
