@@ -1,6 +1,7 @@
 """Where the words and numbers of release/words.toml stand again, and how each place is read.
 
-A reader answers what a text has, in the form of the table; `wanted` is what the table says of it.
+A reader answers what a text has, in the form of the table; `wanted` is what the table says of it,
+or of the plans of faultyard-nemesis its tool, and of orders the definition `may`.
 """
 
 from __future__ import annotations
