@@ -91,9 +91,9 @@ format:
 	tests/style/run format
 
 ## makes what pages say of the source: the crates of ARCHITECTURE and their diagram, acts, replies,
-## questions, limits, faults and statuses of FORMATS, the calls of LIBRARY, the lines of hooks, which
-## files a change touches, what to do after a kill; and CONTRACTS and DEFINITIONS, which only the
-## site and the packages have
+## questions, limits, faults and statuses of FORMATS, the calls of LIBRARY, the lines of hooks,
+## which files a change touches, what to do after a kill; and CONTRACTS and DEFINITIONS, which only
+## the site and the packages have
 pages:
 	tools/pages/make
 	release/pages tables

@@ -40,6 +40,11 @@ def touched(recipe: Recipe) -> list[str]:
     return list(dict.fromkeys(its))
 
 
+def others(recipe: Recipe) -> list[str]:
+    """The files that have the words for another reason: they are made, or show them."""
+    return [path for it in recipe.get("others", ()) for path in spread(it)]
+
+
 def has_all(text: str, words: list[str]) -> bool:
     """Whether each word stands in a text, as a word or as a constant of some language."""
     plain = IMPORTS.sub("", text).replace("_", "").lower()
@@ -56,16 +61,21 @@ def forgotten(recipe: Recipe) -> Iterator[str]:
     if "words" not in recipe:
         return
     words = [*tomllib.loads((ROOT / "release/words.toml").read_text())[recipe["words"]]]
-    there = {*touched(recipe), *recipe.get("others", ()), "release/words.toml"}
+    there = {*touched(recipe), *others(recipe), "release/words.toml"}
+    within = tuple(recipe.get("within", [""]))
     for path in files():
         name = str(path.relative_to(ROOT))
-        if name not in there and has_all(path.read_text(errors="replace"), words):
+        if (
+            name.startswith(within)
+            and name not in there
+            and has_all(path.read_text(errors="replace"), words)
+        ):
             yield f"{name} has all {recipe['words']}, and isn't in the recipe for {recipe['what']}"
 
 
 def wrong() -> Iterator[str]:
     for recipe in recipes():
-        for name in (*touched(recipe), *recipe.get("others", ())):
+        for name in (*touched(recipe), *others(recipe)):
             if not (ROOT / name).is_file():
                 yield f"the recipe for {recipe['what']} names {name}, which isn't there"
         yield from forgotten(recipe)
