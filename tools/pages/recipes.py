@@ -10,6 +10,7 @@ from __future__ import annotations
 import re
 import tomllib
 from collections.abc import Iterator
+from functools import cache
 from itertools import product
 from typing import Any
 
@@ -40,6 +41,12 @@ def touched(recipe: Recipe) -> list[str]:
     return list(dict.fromkeys(its))
 
 
+@cache
+def texts() -> dict[str, str]:
+    """Each file that git knows, by its path."""
+    return {str(it.relative_to(ROOT)): it.read_text(errors="replace") for it in files()}
+
+
 def others(recipe: Recipe) -> list[str]:
     """The files that have the words for another reason: they are made, or show them."""
     return [path for it in recipe.get("others", ()) for path in spread(it)]
@@ -47,6 +54,8 @@ def others(recipe: Recipe) -> list[str]:
 
 def has_all(text: str, words: list[str]) -> bool:
     """Whether each word stands in a text, as a word or as a constant of some language."""
+    if words[-1].lower().replace("_", "") not in text.replace("_", "").lower():
+        return False  # most files, without a look for imports
     plain = IMPORTS.sub("", text).replace("_", "").lower()
     spelled = {word: name.lower() for name, word in acts.NAMES.items()}
     for word in (it.lower().replace("_", "") for it in words):
@@ -63,13 +72,8 @@ def forgotten(recipe: Recipe) -> Iterator[str]:
     words = [*tomllib.loads((ROOT / "release/words.toml").read_text())[recipe["words"]]]
     there = {*touched(recipe), *others(recipe), "release/words.toml"}
     within = tuple(recipe.get("within", [""]))
-    for path in files():
-        name = str(path.relative_to(ROOT))
-        if (
-            name.startswith(within)
-            and name not in there
-            and has_all(path.read_text(errors="replace"), words)
-        ):
+    for name, text in texts().items():
+        if name.startswith(within) and name not in there and has_all(text, words):
             yield f"{name} has all {recipe['words']}, and isn't in the recipe for {recipe['what']}"
 
 
