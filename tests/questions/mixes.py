@@ -128,6 +128,7 @@ def storage_act(chance: random.Random, count: int) -> Json:
             {"sync": {"process": p}},
             {"resend": {"process": p, "record": number(chance, 2)}},
             {"copy": {"from": number(chance, count), "record": number(chance, 2), "to": p}},
+            {"replace": {"into": p, "out": number(chance, count), "team": number(chance, 2)}},
         )
     )
 

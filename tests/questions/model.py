@@ -278,6 +278,11 @@ class Model:
     def take_copy(self, act: Json, _reply: Json) -> None:
         self.send(act["record"], act["to"])
 
+    def take_replace(self, act: Json, _reply: Json) -> None:
+        policy, members = self.teams[act["team"]]
+        swapped = [act["into"] if p == act["out"] else p for p in members]
+        self.teams[act["team"]] = (policy, swapped)
+
     def take_sync(self, act: Json, _reply: Json) -> None:
         p = act["process"]
         for record in self.unsynced[p]:
