@@ -266,7 +266,8 @@ class Recipes(unittest.TestCase):
         self.addCleanup(setattr, recipes, "recipes", recipes.recipes)
 
     def wrong(self, **recipe: object) -> list[str]:
-        setattr(recipes, "recipes", lambda: [{"what": "a rule", "step": []} | recipe])
+        plain = {"what": "a rule", "like": "NoTarget", "step": []}
+        setattr(recipes, "recipes", lambda: [plain | recipe])
         return [*recipes.wrong()]
 
     def test_braces_part_names(self) -> None:
@@ -278,6 +279,11 @@ class Recipes(unittest.TestCase):
         step = {"files": ["Makefile", "crates/{fy_kinds,fy_king}/src/lib.rt"]}
         told = ["the recipe for a rule names crates/fy_king/src/lib.rt, which isn't there"]
         self.assertEqual(self.wrong(step=[step]), told)
+
+    def test_an_example_is_a_word_of_the_enum(self) -> None:
+        told = "the recipe for a rule is as NoTargets, which is none"
+        self.assertIn(told, self.wrong(words="rules", like="NoTargets"))
+        self.assertFalse([it for it in self.wrong(words="rules") if it.endswith("none")])
 
     def test_a_file_with_all_words_is_in_the_recipe(self) -> None:
         name = "crates/fy_kinds/src/verdict.rt"

@@ -722,6 +722,12 @@ OTHERS = (
     Place(FORMATS, "parts", ticked(r"^- The parts are ", r", in this order"), words_of("parts")),
     Place(
         FORMATS,
+        "keys of what is said of names",
+        ticked(r"^A name has .*? A process has ", r"\.$"),
+        words_of("keys"),
+    ),
+    Place(
+        FORMATS,
         "keys of a process",
         ticked(r"^\| a process \| ", r": names that may be missing"),
         lambda table: [*list(table["keys"])[:3], "processid", *list(table["keys"])[3:]],

@@ -77,8 +77,17 @@ def forgotten(recipe: Recipe) -> Iterator[str]:
             yield f"{name} has all {recipe['words']}, and isn't in the recipe for {recipe['what']}"
 
 
+def unlike(recipe: Recipe) -> Iterator[str]:
+    """Where the recipe's example is none of its enum's words."""
+    if "words" in recipe:
+        words = tomllib.loads((ROOT / "release/words.toml").read_text())[recipe["words"]]
+        if recipe["like"].lower() not in {it.lower() for it in words}:
+            yield f"the recipe for {recipe['what']} is as {recipe['like']}, which is none"
+
+
 def wrong() -> Iterator[str]:
     for recipe in recipes():
+        yield from unlike(recipe)
         for name in (*touched(recipe), *others(recipe)):
             if not (ROOT / name).is_file():
                 yield f"the recipe for {recipe['what']} names {name}, which isn't there"
